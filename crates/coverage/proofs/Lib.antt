@@ -1,0 +1,3 @@
+pub mod Bools
+pub mod Points
+pub mod Numbers
