@@ -1,3 +1,6 @@
 pub mod Bools
 pub mod Points
 pub mod Numbers
+pub mod Caps
+pub mod Loops
+pub mod Turns

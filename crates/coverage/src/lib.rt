@@ -8,6 +8,7 @@ pub mod name;
 pub mod range;
 pub mod refusal;
 
+pub use axis::ACROSS;
 pub use axis::AXES;
 pub use axis::Axis;
 pub use description::Description;
@@ -16,6 +17,7 @@ pub use domain::Point;
 pub use kind::Kind;
 pub use name::Name;
 pub use range::Range;
+pub use range::TOO_MANY;
 pub use refusal::Layer;
 pub use refusal::Refusal;
 pub use refusal::Returned;
