@@ -4,3 +4,4 @@ pub mod Numbers
 pub mod Caps
 pub mod Loops
 pub mod Turns
+pub mod Standing

@@ -7,12 +7,14 @@ pub mod kind;
 pub mod name;
 pub mod range;
 pub mod refusal;
+pub mod strips;
 
 pub use axis::ACROSS;
 pub use axis::AXES;
 pub use axis::Axis;
 pub use description::Description;
 pub use domain::Domain;
+pub use domain::ORIGIN;
 pub use domain::Point;
 pub use kind::Kind;
 pub use name::Name;
