@@ -1,0 +1,3 @@
+pub mod Settled
+pub mod Fits
+pub mod Single
