@@ -15,7 +15,7 @@ use Rattle.std.specs.declared.option.Option.the-variants.{Some, None}
 use Rattle.coverage.specs.declared.range.Range.{Range}
 use Rattle.coverage.specs.declared.axis.Axis.{Axis}
 use Rattle.coverage.specs.declared.axis.Axis.the-variants.{X, Y, T}
-use Rattle.coverage.specs.Axes.{Extents, Coordinates, Holds, Inside, Ordered, Sized, above, across, allOver, coordOf, isNone, numberAt, numberOver, onAxis, origin, pointOver, put, sameAxis, sameZ, setAxis, sizeOf, stepOf, width}
+use Rattle.coverage.specs.Axes.{Extents, Coordinates, Holds, Inside, Ordered, Sized, above, across, allOver, coordOf, isNone, lowestOn, numberAt, numberOver, onAxis, origin, pointOver, put, sameAxis, sameZ, setAxis, sizeOf, stepOf, width}
 use Rattle.coverage.specs.Strips.{Raised, Stands, inStrip, rowWidth, stripAt, stripPoint, strips}
 use Rattle.coverage.proofs.Bools.{and-left, and-right, and-both}
 use Rattle.coverage.proofs.Points.{all-members, axis-of, each-over, holds-on, member, on-holds, point-over-inside, present, put-inside}
@@ -138,6 +138,11 @@ module _ (d : Extents) (good : (a : Axis) → Ordered (d a)) where
   strip-first n h v on first =
       let same = put-other across d (stripPoint d n) X v refl in
       (put-inside d (stripPoint d n) X v (strip-inside n) on, ap₂ (λ i j. i * rowWidth d + j) (same ∙ strip-at-point n h) first ∙ add-zero (n * rowWidth d))
+
+-- the lowest x is on the axis, and the first
+pub first-x : (r : Option Range) → Ordered r → (Holds r (lowestOn r)) × (stepOf r (lowestOn r) ≡ 0)
+first-x None h = (tt, refl)
+first-x (Some r) h = ((omega (arith, ints), h), ap above (let e : r .lo -ℤ r .lo ≡ pos 0 = omega (arith, ints) in e))
 
 -- the number of a cell by its strip
 pub number-by-strip : (d : Extents) (p : Coordinates) → numberAt d p ≡ stripAt d p * rowWidth d + stepOf (d X) (p X)

@@ -1,0 +1,3 @@
+pub mod Pastes
+pub mod Cells
+pub mod Grids
