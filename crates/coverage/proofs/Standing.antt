@@ -16,7 +16,7 @@ use Rattle.coverage.specs.declared.range.Range.{Range}
 use Rattle.coverage.specs.declared.axis.Axis.{Axis}
 use Rattle.coverage.specs.declared.axis.Axis.the-variants.{X, Y, T}
 use Rattle.coverage.specs.Axes.{Extents, Coordinates, Holds, Inside, Ordered, Sized, above, across, allOver, coordOf, isNone, lowestOn, numberAt, numberOver, onAxis, origin, pointOver, put, sameAxis, sameZ, setAxis, sizeOf, stepOf, width}
-use Rattle.coverage.specs.Strips.{Raised, Stands, inStrip, rowWidth, stripAt, stripPoint, strips}
+use Rattle.coverage.specs.Strips.{Raised, Stands, inStrip, rowWidth, stripAt, stripFirst, stripPoint, strips}
 use Rattle.coverage.proofs.Bools.{and-left, and-right, and-both}
 use Rattle.coverage.proofs.Points.{all-members, axis-of, each-over, holds-on, member, on-holds, point-over-inside, present, put-inside}
 use Rattle.coverage.proofs.Numbers.{number-over, point-over, put-other}
@@ -91,6 +91,11 @@ over-from (b ∷ rest) d n p q a m h = go (sameAxis b a) refl m (over-from rest 
     go true e m i = some-coord (d b) n (p b) (q b) (ap (λ c. isNone (d c)) (axis-of b a e) ∙ h)
     go false e m i = i m h
 
+-- the lowest x is on the axis, and the first
+pub first-x : (r : Option Range) → Ordered r → (Holds r (lowestOn r)) × (stepOf r (lowestOn r) ≡ 0)
+first-x None h = (tt, refl)
+first-x (Some r) h = ((omega (arith, ints), h), ap above (let e : r .lo -ℤ r .lo ≡ pos 0 = omega (arith, ints) in e))
+
 module _ (d : Extents) (good : (a : Axis) → Ordered (d a)) where
   -- the strip that stands where strip n stands is strip n
   pub strip-at-point : (n : ℕ) → n < strips d → stripAt d (stripPoint d n) ≡ n
@@ -132,17 +137,18 @@ module _ (d : Extents) (good : (a : Axis) → Ordered (d a)) where
       go b m false e k = sameZ-same _ _ (sym k ∙ over-from across d (numberOver across d p) p origin b m e)
 
   -- the first point of a strip: inside, and with the strip's number times the width for its own
-  pub strip-first : (n : ℕ) → n < strips d → (v : ℤ) → Holds (d X) v → stepOf (d X) v ≡ 0 →
-      (Inside d (put (stripPoint d n) X v)) × (numberAt d (put (stripPoint d n) X v) ≡ n * rowWidth d)
+  pub strip-first : (n : ℕ) → n < strips d → (Inside d (stripFirst d n)) × (numberAt d (stripFirst d n) ≡ n * rowWidth d)
   unfolding numberAt stripAt
-  strip-first n h v on first =
+  strip-first n h =
+      let f = first-x (d X) (good X) in
+      let v = lowestOn (d X) in
       let same = put-other across d (stripPoint d n) X v refl in
-      (put-inside d (stripPoint d n) X v (strip-inside n) on, ap₂ (λ i j. i * rowWidth d + j) (same ∙ strip-at-point n h) first ∙ add-zero (n * rowWidth d))
+      (put-inside d (stripPoint d n) X v (strip-inside n) (f .0), ap₂ (λ i j. i * rowWidth d + j) (same ∙ strip-at-point n h) (f .1) ∙ add-zero (n * rowWidth d))
 
--- the lowest x is on the axis, and the first
-pub first-x : (r : Option Range) → Ordered r → (Holds r (lowestOn r)) × (stepOf r (lowestOn r) ≡ 0)
-first-x None h = (tt, refl)
-first-x (Some r) h = ((omega (arith, ints), h), ap above (let e : r .lo -ℤ r .lo ≡ pos 0 = omega (arith, ints) in e))
+  -- the strip through it is strip n
+  pub first-strip : (n : ℕ) → n < strips d → stripAt d (stripFirst d n) ≡ n
+  unfolding stripAt
+  first-strip n h = put-other across d (stripPoint d n) X (lowestOn (d X)) refl ∙ strip-at-point n h
 
 -- the number of a cell by its strip
 pub number-by-strip : (d : Extents) (p : Coordinates) → numberAt d p ≡ stripAt d p * rowWidth d + stepOf (d X) (p X)

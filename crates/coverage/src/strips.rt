@@ -1,6 +1,6 @@
 ghost use Prim.Native.Nat.{min, _*_, _<_, _≤_};
 ghost use Rattle.coverage.specs.Axes.{Inside, Ordered, Sized, cells as cellsOf, coordinates, extents};
-ghost use Rattle.coverage.specs.Strips.{Stands, rowWidth, stripAt, stripPoint, strips as stripsOf};
+ghost use Rattle.coverage.specs.Strips.{Stands, rowWidth, stripAt, stripFirst, stripPoint, strips as stripsOf};
 ghost use Rattle.coverage.specs.declared.axis.Axis.{Axis as AnAxis};
 ghost use mathlib.Core.Path.{_≡_};
 use crate::axis::ACROSS;
@@ -36,14 +36,22 @@ impl Domain {
         self.point_over(&ACROSS, n, ORIGIN)
     }
 
-    /// The number of a strip's first cell: the one with the lowest x where the strip stands.
+    /// The first point of a strip: the one with the lowest x where the strip stands.
+    pub fn strip_first(self, n: usize) -> Point
+        requires sized { ⌜ Sized (extents self) ⌝ }
+        ensures { λ r. ⌜ coordinates r ≡ stripFirst (extents self) n ⌝ }
+    {
+        self.strip_point(n).with(Axis::X, lowest(self.x))
+    }
+
+    /// The number of a strip's first cell.
     pub fn strip_start(self, n: usize) -> usize
         requires ordered { ⌜ ((a : AnAxis) → Ordered (extents self a)) ⌝ }
         requires few { ⌜ cellsOf (extents self) ≤ 65536 ⌝ }
         requires below { ⌜ n < stripsOf (extents self) ⌝ }
         ensures { λ r. ⌜ r ≡ n * rowWidth (extents self) ⌝ }
     {
-        self.cell_number(self.strip_point(n).with(Axis::X, lowest(self.x)))
+        self.cell_number(self.strip_first(n))
     }
 
     /// The number of the strip through a point inside.

@@ -2,3 +2,4 @@ pub mod Settled
 pub mod Fits
 pub mod Single
 pub mod Shapes
+pub mod Numbers

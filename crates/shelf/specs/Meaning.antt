@@ -17,10 +17,10 @@ use Rattle.coverage.specs.declared.axis.Axis.the-variants.{X}
 use Rattle.coverage.specs.declared.range.Range.{Range}
 use Rattle.coverage.specs.declared.kind.Kind.{Kind}
 use Rattle.coverage.specs.declared.description.Description.{Description}
-use Rattle.coverage.specs.Axes.{Extents, Coordinates, extents, insideB, lowestOn, put, stepOf}
+use Rattle.coverage.specs.Axes.{Extents, Coordinates, extents, insideB, stepOf}
 use Rattle.coverage.specs.Kinds.{fits}
 use Rattle.coverage.specs.Limits.{nameBytes}
-use Rattle.coverage.specs.Strips.{inStrip, rowWidth, stripPoint, strips}
+use Rattle.coverage.specs.Strips.{inStrip, rowWidth, stripFirst, strips}
 use Rattle.shelf.specs.declared.fault.ShelfFault.{ShelfFault}
 use Rattle.shelf.specs.declared.fault.ShelfFault.the-variants.{NoCoverage, Outside, Fixed, NoStrip, Unfit, AlreadyThere}
 
@@ -84,7 +84,7 @@ putStrip k n cs = record {
 
 -- whether strip n has come: its first cell is not null
 abbrev pub stripThere : Coverage → ℕ → Bool
-stripThere k n = isSome (cellAt k (put (stripPoint (domainOf k) n) X (lowestOn (domainOf k X))))
+stripThere k n = isSome (cellAt k (stripFirst (domainOf k) n))
 
 -- why a strip does not fit a coverage, or nothing: fixed, no such strip, wrong length or a cell outside
 -- the kind; tested in this order

@@ -24,14 +24,14 @@ use Rattle.coverage.specs.declared.range.Range.{Range}
 use Rattle.coverage.specs.declared.axis.Axis.{Axis}
 use Rattle.coverage.specs.declared.axis.Axis.the-variants.{X}
 use Rattle.coverage.specs.declared.description.Description.{Description}
-use Rattle.coverage.specs.Axes.{Coordinates, Extents, Inside, Ordered, above, cells, extents, insideB, isNone, lowestOn, numberAt, put, sizeOf, stepOf}
+use Rattle.coverage.specs.Axes.{Coordinates, Extents, Inside, Ordered, above, cells, extents, insideB, isNone, numberAt, sizeOf, stepOf}
 use Rattle.coverage.specs.Kinds.{Within, fits}
 use Rattle.coverage.specs.Limits.{describable}
-use Rattle.coverage.specs.Strips.{inStrip, rowWidth, stripAt, stripPoint, strips}
+use Rattle.coverage.specs.Strips.{inStrip, rowWidth, stripAt, stripFirst, strips}
 use Rattle.coverage.proofs.Bools.{and-left, and-right, and-both, by-test}
 use Rattle.coverage.proofs.Points.{inside-from, inside-test}
 use Rattle.coverage.proofs.Numbers.{number-below, size-some, step-below}
-use Rattle.coverage.proofs.Standing.{in-strip, in-own-strip, number-by-strip, first-x, strip-first}
+use Rattle.coverage.proofs.Standing.{in-strip, in-own-strip, number-by-strip, strip-first}
 use Rattle.coverage.proofs.Bounds.{Describable, bounded-ordered, describable-by, few-cells}
 use Rattle.shelf.specs.declared.fault.ShelfFault.{ShelfFault}
 use Rattle.shelf.specs.declared.fault.ShelfFault.the-variants.{AlreadyThere, Outside}
@@ -122,9 +122,8 @@ pub strip-there : (a : Description) (cs : List ℤ) (n : ℕ) → Kept a cs → 
 strip-there a cs n k h =
     let d = extents (a .domain) in
     let good = kept-ordered a cs k in
-    let f = first-x (d X) (good X) in
-    let p = put (stripPoint d n) X (lowestOn (d X)) in
-    let s = strip-first d good n h (lowestOn (d X)) (f .0) (f .1) in
+    let p = stripFirst d n in
+    let s = strip-first d good n h in
     ap isSome (look-inside a cs p (inside-test d p (s .0))) ∙ (some-known (cellOf cs (numberAt d p)) ∙ ap (λ i. not (isNull (cellOf cs i))) (s .1))
 
 -- ---- the meaning is lawful

@@ -2,3 +2,6 @@ pub mod Pastes
 pub mod Cells
 pub mod Grids
 pub mod Makings
+pub mod Lists
+pub mod Finds
+pub mod Joins
