@@ -1,5 +1,5 @@
 -- Points in domains.
-use mathlib.Core.Path.{_≡_, refl, sym, ap, subst, fun-ext, _∙_}
+use mathlib.Core.Path.{_≡_, refl, sym, ap, ap₂, subst, fun-ext, _∙_}
 use mathlib.Core.List.{List, [], _∷_}
 use mathlib.Core.Bool.{Bool, true, false, cond, _&&_, _||_, not}
 use Prim.Native.Nat.{ℕ, zero, suc, _+_, _*_, _/_, _%_, _≤_, _<_}
@@ -125,17 +125,28 @@ pub all-over : (list : List Axis) (f : Axis → Bool) → ((a : Axis) → f a �
 all-over [] f h = refl
 all-over (a ∷ rest) f h = and-both (f a) _ (h a) (all-over rest f h)
 
+same-self : (a : Axis) → sameAxis a a ≡ true
+same-self a = eq-eqb _ _ refl
+
+cond-true : (s b : Bool) → b ≡ true → cond s true b ≡ true
+cond-true true b h = refl
+cond-true false b h = h
+
+pub member-here : (a : Axis) (rest : List Axis) → member a (a ∷ rest) ≡ true
+member-here a rest = ap (λ s. cond s true (member a rest)) (same-self a)
+
+pub member-later : (a b : Axis) (rest : List Axis) → member a rest ≡ true → member a (b ∷ rest) ≡ true
+member-later a b rest m = cond-true (sameAxis b a) (member a rest) m
+
 -- a test that holds on each axis of a list holds of the list
 pub all-members : (list : List Axis) (f : Axis → Bool) → ((a : Axis) → member a list ≡ true → f a ≡ true) → allOver f list ≡ true
 all-members [] f h = refl
-all-members (b ∷ rest) f h = and-both (f b) _ (h b (own (sameAxis b b) (eq-eqb _ _ refl))) (all-members rest f (λ a m. h a (later a (sameAxis b a) m)))
-  where
-    own : (s : Bool) → s ≡ true → cond s true (member b rest) ≡ true
-    own true e = refl
-    own false e = absurd (clash e)
-    later : (a : Axis) (s : Bool) → member a rest ≡ true → cond s true (member a rest) ≡ true
-    later a true m = refl
-    later a false m = m
+all-members (b ∷ rest) f h = and-both (f b) _ (h b (member-here b rest)) (all-members rest f (λ a m. h a (member-later a b rest m)))
+
+-- tests that agree on each axis of a list agree on the list
+pub all-same : (list : List Axis) (f g : Axis → Bool) → ((a : Axis) → member a list ≡ true → f a ≡ g a) → allOver f list ≡ allOver g list
+all-same [] f g h = refl
+all-same (b ∷ rest) f g h = ap₂ (λ x y. x && y) (h b (member-here b rest)) (all-same rest f g (λ a m. h a (member-later a b rest m)))
 
 pub inside-test : (d : Extents) (p : Coordinates) → Inside d p → insideB d p ≡ true
 inside-test d p h = all-over axes (λ a. onAxis (d a) (p a)) (λ a. holds-on (d a) (p a) (h a))

@@ -9,13 +9,10 @@ use Rattle.std.specs.declared.option.Option.the-variants.{Some, None}
 use Rattle.coverage.specs.declared.range.Range.{Range}
 use Rattle.coverage.specs.declared.axis.Axis.{Axis}
 use Rattle.coverage.specs.declared.axis.Axis.the-variants.{X}
-use Rattle.coverage.specs.Axes.{Extents, Coordinates, across, allOver, axes, insideB, isNone, numberAt, numberOver, onAxis, sameZ, sizeOf, stepOf}
+use Rattle.coverage.specs.Axes.{Extents, Coordinates, across, axes, insideB, isNone, numberAt, numberOver, onAxis, sameZ, sizeOf, stepOf}
 use Rattle.coverage.specs.Strips.{inStrip, stripAt, stripPoint}
+use Rattle.coverage.proofs.Points.{all-same}
 use Rattle.shelf.specs.Meaning.{settled, settledOn}
-
-all-alike : (list : List Axis) (f g : Axis → Bool) → ((a : Axis) → f a ≡ g a) → allOver f list ≡ allOver g list
-all-alike [] f g h = refl
-all-alike (a ∷ rest) f g h = ap₂ (λ x y. x && y) (h a) (all-alike rest f g h)
 
 settled-on : (r : Option Range) (v : ℤ) → onAxis r (settledOn r v) ≡ onAxis r v
 settled-on None v = refl
@@ -30,7 +27,7 @@ settled-same None v w = refl
 settled-same (Some r) v w = refl
 
 pub settled-inside : (d : Extents) (p : Coordinates) → insideB d (settled d p) ≡ insideB d p
-settled-inside d p = all-alike axes (λ a. onAxis (d a) (settled d p a)) (λ a. onAxis (d a) (p a)) (λ a. settled-on (d a) (p a))
+settled-inside d p = all-same axes (λ a. onAxis (d a) (settled d p a)) (λ a. onAxis (d a) (p a)) (λ a _. settled-on (d a) (p a))
 
 over-settled : (list : List Axis) (d : Extents) (p : Coordinates) → numberOver list d (settled d p) ≡ numberOver list d p
 over-settled [] d p = refl
@@ -47,4 +44,4 @@ settled-strip d p = over-settled across d p
 pub settled-in-strip : (d : Extents) (n : ℕ) (p : Coordinates) → inStrip d n (settled d p) ≡ inStrip d n p
 settled-in-strip d n p =
     ap₂ (λ x y. x && y) (settled-on (d X) (p X))
-    (all-alike across (λ a. isNone (d a) || sameZ (settled d p a) (stripPoint d n a)) (λ a. isNone (d a) || sameZ (p a) (stripPoint d n a)) (λ a. settled-same (d a) (p a) (stripPoint d n a)))
+    (all-same across (λ a. isNone (d a) || sameZ (settled d p a) (stripPoint d n a)) (λ a. isNone (d a) || sameZ (p a) (stripPoint d n a)) (λ a _. settled-same (d a) (p a) (stripPoint d n a)))

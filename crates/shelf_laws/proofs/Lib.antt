@@ -5,3 +5,6 @@ pub mod Makings
 pub mod Lists
 pub mod Finds
 pub mod Joins
+pub mod Windows
+pub mod WindowCalls
+pub mod Views

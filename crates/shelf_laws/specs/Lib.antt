@@ -1,3 +1,4 @@
 pub mod Making
 pub mod Grid
 pub mod Join
+pub mod Window

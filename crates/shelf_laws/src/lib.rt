@@ -1,5 +1,8 @@
 // The mathematics of the shelves: what their memory means and what keeps it lawful (specs/ and
 // proofs/), and the one write into lent cells that they share.
+pub mod cut;
 pub mod rows;
 
+pub use cut::Cut;
+pub use cut::View;
 pub use rows::Rows;

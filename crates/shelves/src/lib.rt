@@ -3,6 +3,7 @@ pub mod grid;
 pub mod grid_calls;
 pub mod grid_making;
 pub mod join;
+pub mod window;
 
 pub use grid::Grid;
 pub use grid_calls::GridReceiving;
@@ -12,3 +13,8 @@ pub use grid_making::make_grid;
 pub use join::Join;
 pub use join::JoinReceiving;
 pub use join::JoinShelf;
+pub use window::Window;
+pub use window::WindowReceiving;
+pub use window::WindowShelf;
+pub use window::check_window;
+pub use window::make_window;

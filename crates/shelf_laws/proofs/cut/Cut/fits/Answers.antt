@@ -1,0 +1,27 @@
+use mathlib.Core.Path.{_≡_, sym, ap₂, _∙_}
+use mathlib.Core.Bool.{Bool, true, false}
+use native.Mathlib.Omega.{arith}
+use lib.ListN.{getD}
+use Rattle.coverage.specs.declared.axis.Axis.{Axis}
+use Rattle.coverage.specs.declared.axis.Axis.the-variants.{X}
+use Rattle.coverage.specs.Axes.{axes, extents}
+use Rattle.coverage.proofs.Loops.{all-fails, all-goes-on, all-ends}
+use Rattle.shelf_laws.specs.Window.{axisFits, cutRange}
+use Rattle.shelf_laws.proofs.cut.Cut.fits.Needs as need
+
+pub returns-then-not-fits-axis : need.returns-then-not-fits-axis
+returns-then-not-fits-axis c =
+    let f : Axis → Bool = λ a. axisFits (extents (c .args .domain) a) (cutRange (c .args .self) a) in
+    let e : f (getD axes (c .loop-axis .axis-index) X) ≡ false = ap₂ axisFits (sym (c .on .ensures)) (sym (c .on-in-loop-axis .ensures)) ∙ sym (c .if-not-fits-axis .ensures tt) in
+    sym (c .loop-axis .inv ∙ all-fails f axes (c .loop-axis .axis-index) (c .loop-axis-test .taken) e)
+
+pub loop-axis-again : need.loop-axis-again
+loop-axis-again c =
+    let f : Axis → Bool = λ a. axisFits (extents (c .args .domain) a) (cutRange (c .args .self) a) in
+    let e : f (getD axes (c .loop-axis .axis-index) X) ≡ true = ap₂ axisFits (sym (c .on .ensures)) (sym (c .on-in-loop-axis .ensures)) ∙ sym (c .if-not-fits-axis .ensures tt) in
+    c .loop-axis .inv ∙ all-goes-on f axes (c .loop-axis .axis-index) (c .loop-axis-test .taken) e
+
+pub returns : need.returns
+returns c =
+    let f : Axis → Bool = λ a. axisFits (extents (c .args .domain) a) (cutRange (c .args .self) a) in
+    sym (c .loop-axis .inv ∙ all-ends f axes (c .loop-axis .axis-index) (omega arith))
