@@ -1,0 +1,16 @@
+pub mod Corners
+pub mod Quotients
+pub mod Grows
+pub mod Promised
+pub mod Rules
+pub mod Domains
+pub mod Operands
+pub mod Folds
+pub mod Within
+pub mod Local
+pub mod Sizes
+pub mod Limits
+pub mod Reached
+pub mod Shelves
+pub mod Theorems
+pub mod Examples
