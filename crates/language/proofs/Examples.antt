@@ -6,6 +6,7 @@ use Rattle.language.specs.Spans.{corners}
 use Rattle.language.specs.Faults.{limitsFault, nameFault, iteratorFault, unaryFault, binaryFault, reduceFault, trimFault, sliceFault, iteratorsFault, condenseFault, condenseWhereFault, formFault}
 use Rattle.language.specs.Queries.{bindingFault, queryFault}
 use Rattle.language.specs.Worked.{WorkedCases}
+use Rattle.language.specs.Constructs.{ConstructsByExample}
 
 pub worked-cases : WorkedCases
 unfolding pointAt quotient corners limitsFault nameFault iteratorFault unaryFault binaryFault reduceFault trimFault sliceFault iteratorsFault condenseFault condenseWhereFault formFault bindingFault queryFault
@@ -34,3 +35,7 @@ worked-cases = record {
   bound-twice = refl;
   unknown-coverage = refl;
 }
+
+pub constructs-by-example : ConstructsByExample
+unfolding pointAt quotient corners limitsFault nameFault iteratorFault unaryFault binaryFault reduceFault trimFault sliceFault iteratorsFault condenseFault condenseWhereFault formFault bindingFault queryFault
+constructs-by-example = record { minus = refl; minus-span = refl; magnitude = refl; magnitude-span = refl; magnitude-apart = refl; overlay-zero = refl; overlay-span = refl; difference = refl; quotient-span = refl; equal = refl; unequal = refl; less-than = refl; at-most = refl; greater = refl; at-least = refl; conjunction = refl; disjunction = refl; exclusive = refl; negation = refl; least = refl; greatest = refl; counted = refl; counted-span = refl; some-above = refl; all-above = refl; all-null = refl; add-of-one = refl; trimmed = refl; trim-outside = refl; axis-twice = refl; axis-missing = refl; form-cells = refl; form-far-out = refl; position-known = refl; position-null = refl; position-null-reads = refl; sum-of-none = refl; sum-of-none-span = refl; every-of-none = refl; any-of-none = refl; least-of-none = refl; word-twice = refl; ends-out-of-order = refl; too-many-points = refl; unbound-in-body = refl; body-with-axes = refl; word-in-use-around = refl; promise-too-high = refl; promise-just-in = refl; query-promise-too-high = refl }

@@ -14,3 +14,4 @@ pub mod Reached
 pub mod Shelves
 pub mod Theorems
 pub mod Examples
+pub mod Exact

@@ -14,7 +14,7 @@ use Rattle.language.specs.Typing.{About, Described}
 use Rattle.language.specs.Faults.{mostCells}
 use Rattle.language.specs.Values.{Looks}
 use Rattle.language.specs.Queries.{standsFor, describedAs, lookedAt, bindAbout, bindLooks}
-use Rattle.language.specs.Laws.{OrderedDomains, CellsOfTheirKind, SoundShelf, KnownCellsStay, CellsAlike, InBounds, BoundedShelf}
+use Rattle.language.specs.Laws.{OrderedDomains, CellsOfTheirKind, SoundShelf, KnownCellsStay, Known, AllKnown, CellsAlike, InBounds, BoundedShelf}
 
 none-found : {B : Type 0} {a : About} → _≡_ {A = Option About} None (Some a) → B
 none-found e = let z : _≡_ {A = ℕ} 0 1 = cc in absurd (omega linear)
@@ -36,6 +36,9 @@ module _ (bs : List Binding) (find : Described) where
 
   pub bind-stay : (look later : Looks) → KnownCellsStay find look later → KnownCellsStay (bindAbout bs find) (bindLooks bs look) (bindLooks bs later)
   bind-stay look later h w a e = found find (λ o b. (p : Coordinates) → Inside (b .extents) p → (v : ℤ) → lookedAt look o p ≡ Some v → lookedAt later o p ≡ Some v) h (standsFor bs w) a e
+
+  pub bind-known : (look : Looks) → AllKnown find look → AllKnown (bindAbout bs find) (bindLooks bs look)
+  bind-known look h w a e = found find (λ o b. (p : Coordinates) → Inside (b .extents) p → Known (lookedAt look o p)) h (standsFor bs w) a e
 
   pub bind-alike : (look other : Looks) → CellsAlike find look other → CellsAlike (bindAbout bs find) (bindLooks bs look) (bindLooks bs other)
   bind-alike look other h w a e = found find (λ o b. (p q : Coordinates) → Inside (b .extents) p → Agree (b .extents) p q → lookedAt look o p ≡ lookedAt other o q) h (standsFor bs w) a e

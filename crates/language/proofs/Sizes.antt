@@ -54,6 +54,14 @@ one-le : (q : Option Range) → Ordered q → 1 ≤ sizeOf q
 one-le None h = omega arith
 one-le (Some q) h = let n = above-one (q .lo) (q .hi) h in omega (arith, ints)
 
+-- a domain with its ends in order has a cell
+pub some-cell : (d : Extents) → ((a : Axis) → Ordered (d a)) → 1 ≤ cells d
+some-cell d h = over axes
+  where
+    over : (list : List Axis) → 1 ≤ cellsOver list d
+    over [] = omega arith
+    over (a ∷ rest) = mul-le 1 1 (sizeOf (d a)) (cellsOver rest d) (one-le (d a) (h a)) (over rest)
+
 joint-le : (b : Bool) (d e : Extents) (n : ℕ) → cells d ≤ n → cells e ≤ n → cells (λ a. cond b (e a) (d a)) ≤ n
 joint-le true d e n h k = k
 joint-le false d e n h k = h

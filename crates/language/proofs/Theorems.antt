@@ -24,7 +24,7 @@ use Rattle.language.specs.Typing.{Described, domainOf, promiseOf}
 use Rattle.language.specs.Faults.{mostCells, mostReads, first, unless, faultOf}
 use Rattle.language.specs.Values.{Looks}
 use Rattle.language.specs.Queries.{bindAbout, bindLooks, bindingsFault, queryDomain, queryPromise, queryFault, Announced, announced, unlessRefused, checked, noPlaces, origin, cellAt, cellReads, reads}
-use Rattle.language.specs.Laws.{SoundShelf, KnownCellsStay, CellsAlike, BoundedShelf, InBounds, ValuesLieInTheirSpan, ReadsStayWithinThePromise, KnownCellsNeverChange, AnswersDependOnlyOnCellsInside, AcceptedKeepsTheLimits, FourPairsBoundEveryResult, QuotientsDropTheFraction, CellsAndPointsNumberEachOther}
+use Rattle.language.specs.Laws.{SoundShelf, KnownCellsStay, CellsAlike, BoundedShelf, InBounds, ValuesLieInTheirSpan, ReadsStayWithinThePromise, KnownCellsNeverChange, Known, AllKnown, NoWhere, NothingNullReadsThePromise, AnswersDependOnlyOnCellsInside, AcceptedKeepsTheLimits, FourPairsBoundEveryResult, QuotientsDropTheFraction, CellsAndPointsNumberEachOther}
 use Rattle.language.proofs.Rules.{one, two, passes}
 use Rattle.language.proofs.Quotients.{quotient-left, quotient-right, drops-less, drops-toward-zero}
 use Rattle.language.proofs.Operands.{arithmetic-in}
@@ -32,10 +32,11 @@ use Rattle.language.proofs.Reached.{lowest-reached, highest-reached}
 use Rattle.language.proofs.Within.{domain-ordered, within}
 use Rattle.language.proofs.Promised.{promised, sum-of-le}
 use Rattle.language.proofs.Grows.{Grown, grown}
+use Rattle.language.proofs.Exact.{exact, sum-exact}
 use Rattle.language.proofs.Local.{same}
 use Rattle.language.proofs.Sizes.{few-cells}
 use Rattle.language.proofs.Limits.{few-reads, in-bounds}
-use Rattle.language.proofs.Shelves.{bind-ordered, bind-sound, bind-stay, bind-alike, bind-bounded}
+use Rattle.language.proofs.Shelves.{bind-ordered, bind-sound, bind-stay, bind-known, bind-alike, bind-bounded}
 
 -- ---- what acceptance of a query says
 
@@ -109,6 +110,11 @@ module _ (find : Described) (q : Query) (t : Announced) (e : checked find q ≡ 
       grown about (b .ordered) (bindLooks (q .bindings) look) (bindLooks (q .bindings) later) (b .kinds) (bind-stay (q .bindings) find look later h) noRanges noPlaces (λ w. tt) 0 (q .body) body-accepted
       (pointAt (queryDomain find q) n origin) (inside-answer look s n)
 
+  exact-law : (look : Looks) → SoundShelf find look → AllKnown find look → NoWhere (q .body) → (n : ℕ) → Known (cellAt find look q n) × (cellReads find look q n ≡ promiseOf (bindAbout (q .bindings) find) (q .body))
+  exact-law look s k m n =
+      let b = bind-sound (q .bindings) find look s in
+      exact about (b .ordered) (bindLooks (q .bindings) look) (b .kinds) (bind-known (q .bindings) find look k) noRanges noPlaces (λ w. tt) 0 (q .body) body-accepted m (pointAt (queryDomain find q) n origin) (inside-answer look s n)
+
 pub values-lie-in-their-span : ValuesLieInTheirSpan
 values-lie-in-their-span find look s q t e n = span-law find q t e look s n
 
@@ -120,6 +126,14 @@ reads-stay-within-the-promise = record {
 
 pub known-cells-never-change : KnownCellsNeverChange
 known-cells-never-change find look later s h q t e n v a = of-grown (cellAt find look q n) (cellAt find later q n) v (grows-law find q t e look later s h n) a
+
+pub nothing-null-reads-the-promise : NothingNullReadsThePromise
+nothing-null-reads-the-promise = record {
+  known = λ find look s k q m t e n. exact-law find q t e look s k m n .0;
+  exact = λ find look s k q m t e.
+      subst (λ (u : Announced). reads find look q ≡ u .promise) (query-accepted find q t e .told)
+      (sum-exact (cellReads find look q) (promiseOf (bindAbout (q .bindings) find) (q .body)) (λ n. exact-law find q t e look s k m n .1) (cells (queryDomain find q)));
+}
 
 pub answers-depend-only-on-cells-inside : AnswersDependOnlyOnCellsInside
 answers-depend-only-on-cells-inside = record {

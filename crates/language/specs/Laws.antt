@@ -66,6 +66,37 @@ abbrev pub KnownCellsNeverChange : Type 0
 KnownCellsNeverChange = (find : Described) (look later : Looks) → SoundShelf find look → KnownCellsStay find look later →
     (q : Query) (t : Announced) → checked find q ≡ Ok t → (n : ℕ) (v : ℤ) → cellAt find look q n ≡ Some v → cellAt find later q n ≡ Some v
 
+-- ---- promises are no looser than they must be
+
+abbrev pub Known : Option ℤ → Type 0
+Known None = ⊥
+Known (Some v) = Unit {0}
+
+-- every cell inside the domains is known
+abbrev pub AllKnown : Described → Looks → Type 0
+AllKnown about look = (w : Word) (a : About) → about w ≡ Some a → (p : Coordinates) → Inside (a .extents) p → Known (look w p)
+
+-- no `where` stands that could leave a body unread
+abbrev pub NoWhere : Expr → Type 0
+NoWhere (at place e) = NoWhere e
+NoWhere (numeral n) = Unit {0}
+NoWhere (truth b) = Unit {0}
+NoWhere (name w) = Unit {0}
+NoWhere (iterator w) = Unit {0}
+NoWhere (unary o e) = NoWhere e
+NoWhere (binary o d e) = NoWhere d × NoWhere e
+NoWhere (reduce r e) = NoWhere e
+NoWhere (trim twice a r e) = NoWhere e
+NoWhere (slice twice a e q) = NoWhere e × NoWhere q
+NoWhere (condense o is e) = NoWhere e
+NoWhere (condenseWhere o is w e) = ⊥
+NoWhere (form is e) = NoWhere e
+
+-- then every cell of the answer is known, and its reads are the promise exactly
+pub record NothingNullReadsThePromise : Type 0 where
+  pub known : (find : Described) (look : Looks) → SoundShelf find look → AllKnown find look → (q : Query) → NoWhere (q .body) → (t : Announced) → checked find q ≡ Ok t → (n : ℕ) → Known (cellAt find look q n)
+  pub exact : (find : Described) (look : Looks) → SoundShelf find look → AllKnown find look → (q : Query) → NoWhere (q .body) → (t : Announced) → checked find q ≡ Ok t → reads find look q ≡ t .promise
+
 -- ---- what an answer depends on
 
 -- only on cells inside the domains: where those are alike, so are all cells of the answer and their reads.

@@ -9,3 +9,4 @@ pub mod Reads
 pub mod Queries
 pub mod Laws
 pub mod Worked
+pub mod Constructs

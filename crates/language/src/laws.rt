@@ -1,9 +1,10 @@
 // The laws of queries. The functions do nothing and answer nothing: what each says is its contract.
 ghost use Rattle.language.specs.Laws.{ValuesLieInTheirSpan, ReadsStayWithinThePromise, KnownCellsNeverChange};
-ghost use Rattle.language.specs.Laws.{AnswersDependOnlyOnCellsInside, AcceptedKeepsTheLimits};
+ghost use Rattle.language.specs.Laws.{NothingNullReadsThePromise, AnswersDependOnlyOnCellsInside, AcceptedKeepsTheLimits};
 ghost use Rattle.language.specs.Laws.{FourPairsBoundEveryResult, QuotientsDropTheFraction};
 ghost use Rattle.language.specs.Laws.{CellsAndPointsNumberEachOther};
 ghost use Rattle.language.specs.Worked.{WorkedCases};
+ghost use Rattle.language.specs.Constructs.{ConstructsByExample};
 
 /// Every cell of an answer is null or a value of the announced kind, within the announced span.
 pub fn values_lie_in_their_announced_span()
@@ -18,6 +19,12 @@ pub fn reads_stay_within_the_promise()
 /// Where every known cell of one shelf is the same on another, every known cell of the answer is the same.
 pub fn known_cells_never_change()
     ensures { λ r. ⌜ KnownCellsNeverChange ⌝ }
+{}
+
+/// Where every cell is known and no `where` stands, every cell of the answer is known and its reads are
+/// the promise exactly.
+pub fn promises_are_exact_where_nothing_is_null_or_skipped()
+    ensures { λ r. ⌜ NothingNullReadsThePromise ⌝ }
 {}
 
 /// Shelves with the same cells inside their domains give the same cells and the same reads.
@@ -49,4 +56,9 @@ pub fn cells_and_points_number_each_other()
 /// The worked cases over a roof of two rows, cell by cell and refusal by refusal.
 pub fn worked_cases_come_out()
     ensures { λ r. ⌜ WorkedCases ⌝ }
+{}
+
+/// Every construct by small cases: its cells, spans, reads and refusals.
+pub fn each_construct_gives_what_its_rule_says()
+    ensures { λ r. ⌜ ConstructsByExample ⌝ }
 {}
