@@ -83,6 +83,7 @@ pub record ConstructsByExample : Type 0 where
   pub magnitude-span : checked roof (query (unary Abs (less 40))) ≡ accepts roofExtents (pos 0) (pos 60) 6
   pub magnitude-apart : checked roof (query (unary Abs (less 140))) ≡ accepts roofExtents (pos 40) (pos 140) 6
   pub overlay-zero : gives (binary Overlay (less 10) (n 7)) (cells6 (pos 7) (pos 10) (pos 20) (pos 30) (pos 40) (pos 50))
+  pub overlay-reads : reads roof both (query (binary Overlay (less 10) (n 7))) ≡ 6
   pub overlay-span : checked roof (query (binary Overlay (less 10) (n 95))) ≡ accepts roofExtents (negsuc 9) (pos 95) 6
   pub difference : givesOne (ofNumbers (Numbers Subtract) 3 5) (negsuc 1)
   pub quotient-span : checked roof (query (binary (Numbers Divide) (less 50) (n 7))) ≡ accepts roofExtents (negsuc 6) (pos 7) 6
@@ -100,6 +101,7 @@ pub record ConstructsByExample : Type 0 where
   pub least : givesOne (reduce (Whole Least) (name c)) (pos 10)
   pub greatest : givesOne (reduce (Whole Greatest) (name c)) (pos 60)
   pub counted : givesOne (reduce Count (above 30)) (pos 3)
+  pub counted-reads : reads roof both (query (reduce Count (above 30))) ≡ 6
   pub counted-span : checked roof (query (reduce Count (above 30))) ≡ accepts noExtents (pos 0) (pos 6) 6
   pub some-above : givesOne (reduce (Whole Any) (above 60)) (pos 0)
   pub all-above : givesOne (reduce (Whole Every) (above 0)) (pos 1)
@@ -111,9 +113,15 @@ pub record ConstructsByExample : Type 0 where
   pub axis-twice : checked roof (query (slice true X (trim false X (span (pos 0) (pos 1)) (name c)) (n 0))) ≡ refuses 6 0
   pub axis-missing : checked roof (query (slice false T (name c) (n 0))) ≡ refuses 6 0
   pub form-cells : gives mirrored (cells6 (pos 30) (pos 20) (pos 10) (pos 60) (pos 50) (pos 40))
+  pub form-reads : reads roof both (query mirrored) ≡ 6
   pub form-far-out : checked roof (query (form (over T 2000000 2000002 ∷ []) (iterator (codes "i")))) ≡ accepts (setAxis noExtents T (Some (span (pos 2000000) (pos 2000002)))) (pos 2000000) (pos 2000002) 0
+  -- a position outside is 6 even where it has axes too; a truth has no span, so it is 7 unless the axis is missing
+  pub position-with-axes : checked roof (query (slice false X (name c) (name c))) ≡ refuses 6 0
+  pub position-of-truth : checked roof (query (slice false X (name c) (truth true))) ≡ refuses 7 0
+  pub position-of-truth-axis-missing : checked roof (query (slice false T (name c) (truth true))) ≡ refuses 6 0
   -- a null position gives null, and its operand is unread
-  pub position-known : reads roof both (query byPosition) ≡ 2
+  pub position-known : givesOne byPosition (pos 10)
+  pub position-known-reads : reads roof both (query byPosition) ≡ 2
   pub position-null : answer roof strip1 (query byPosition) ≡ None ∷ []
   pub position-null-reads : reads roof strip1 (query byPosition) ≡ 1
   -- nothing picked
@@ -129,6 +137,12 @@ pub record ConstructsByExample : Type 0 where
   pub unbound-in-body : checked roof (query (condense Sum (over X 0 65535 ∷ []) (iterator (codes "z")))) ≡ refuses 5 0
   pub body-with-axes : checked roof (query (condense Sum (over X 0 1 ∷ []) (name c))) ≡ refuses 7 0
   pub word-in-use-around : checked roof (query (condense Sum (over X 0 1 ∷ []) (condense Sum (over Y 0 1 ∷ []) (n 1)))) ≡ refuses 5 0
+  -- bodies before their form: 5 of the body before 7 of the `where`
+  pub where-no-truth : checked roof (query (condenseWhere Sum (over X 0 1 ∷ []) (n 1) (n 1))) ≡ refuses 7 0
+  pub body-before-where-kind : checked roof (query (condenseWhere Sum (over X 0 1 ∷ []) (n 1) (iterator (codes "z")))) ≡ refuses 5 0
+  -- kinds before the divisor, and the divisor before the span
+  pub kinds-before-divisor : checked roof (query (binary (Numbers Divide) (truth true) (name c))) ≡ refuses 7 0
+  pub divisor-before-span : checked roof (query (binary (Numbers Divide) (n 1) (binary (Numbers Multiply) (name c) (n 0)))) ≡ refuses 8 0
   -- the promise for a cell, and last the query's, at place 0
   pub promise-too-high : checked roof (query (at 40 (condense Sum (over X 0 65535 ∷ []) (at 50 (condense Sum (another 245) corner))))) ≡ refuses 11 40
   pub promise-just-in : checked roof (query (at 40 (condense Sum (over X 0 65535 ∷ []) (at 50 (condense Sum (another 244) corner))))) ≡ accepts noExtents (pos 0) (pos 1599078400) 15990784

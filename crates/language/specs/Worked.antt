@@ -133,6 +133,7 @@ pub record WorkedCases : Type 0 where
   pub add-all : checked roof addAll ≡ accepts noExtents (pos 0) (pos 600) 6
   pub add-all-null : answer roof strip1 addAll ≡ None ∷ []
   pub add-all-known : answer roof both addAll ≡ Some (pos 210) ∷ []
+  pub add-all-reads : reads roof both addAll ≡ 6
   -- the fraction is dropped toward zero
   pub minus-seven-halves : answer roof both minusSevenHalves ≡ Some (negsuc 2) ∷ []
   pub one-over : checked roof oneOver ≡ refuses 8 31
@@ -142,6 +143,7 @@ pub record WorkedCases : Type 0 where
   pub column-3 : checked roof (column 3) ≡ refuses 6 31
   pub next-in-row : checked roof (nextInRow 1) ≡ accepts noExtents (pos 0) (pos 200) 2
   pub next-in-row-sum : answer roof both (nextInRow 1) ≡ Some (pos 50) ∷ []
+  pub next-in-row-reads : reads roof both (nextInRow 1) ≡ 2
   pub next-outside : checked roof (nextInRow 2) ≡ refuses 6 63
   -- nothing picked gives null; the bodies stay unread
   pub highest-null : answer roof both highest ≡ None ∷ []
