@@ -13,22 +13,18 @@ use Rattle.std.specs.declared.option.Option.{Option}
 use Rattle.std.specs.declared.option.Option.the-variants.{Some, None}
 use Rattle.coverage.specs.declared.range.Range.{Range}
 use Rattle.coverage.specs.declared.axis.Axis.{Axis}
-use Rattle.coverage.specs.Axes.{axes, sameAxis, Extents, Coordinates, put, above, width, sizeOf, allOver, cellsOver, cells, Holds, Inside, Ordered, coordOf, pointOver, pointAt, stepOf, numberOver, numberAt}
+use Rattle.coverage.specs.Axes.{axes, sameAxis, distinct, Extents, Coordinates, put, above, width, sizeOf, allOver, cellsOver, cells, Holds, Inside, Ordered, coordOf, pointOver, pointAt, stepOf, numberOver, numberAt}
 use Rattle.coverage.proofs.Bools.{and-left, and-right}
 use Rattle.coverage.proofs.Points.{above-one, axis-of}
 
-abbrev distinct : List Axis → Bool
-distinct [] = true
-distinct (a ∷ rest) = allOver (λ b. not (sameAxis a b)) rest && distinct rest
-
-put-other : (rest : List Axis) (d : Extents) (q : Coordinates) (a : Axis) (v : ℤ) → allOver (λ b. not (sameAxis a b)) rest ≡ true → numberOver rest d (put q a v) ≡ numberOver rest d q
+pub put-other : (rest : List Axis) (d : Extents) (q : Coordinates) (a : Axis) (v : ℤ) → allOver (λ b. not (sameAxis a b)) rest ≡ true → numberOver rest d (put q a v) ≡ numberOver rest d q
 put-other [] d q a v h = refl
 put-other (b ∷ rest) d q a v h =
     let i = put-other rest d q a v (and-right (not (sameAxis a b)) _ h) in
     let s = not-true (sameAxis a b) (and-left (not (sameAxis a b)) _ h) in
     rw (i, s) refl
 
-size-some : (r : Option Range) → Ordered r → 0 < sizeOf r
+pub size-some : (r : Option Range) → Ordered r → 0 < sizeOf r
 size-some None h = omega arith
 size-some (Some r) h = let e = above-one (r .lo) (r .hi) h in omega (arith, ints)
 
@@ -43,10 +39,10 @@ step-coord : (r : Option Range) (n : ℕ) (v : ℤ) → Ordered r → stepOf r (
 step-coord None n v h = omega arith
 step-coord (Some r) n v h = above-of ((r .lo +ℤ pos (n % width r)) -ℤ r .lo) (n % width r) (omega (arith, ints))
 
-put-same : (q : Coordinates) (a : Axis) (v : ℤ) → put q a v a ≡ v
+pub put-same : (q : Coordinates) (a : Axis) (v : ℤ) → put q a v a ≡ v
 put-same q a v = let s : sameAxis a a ≡ true = eq-eqb _ _ refl in rw s refl
 
-number-over : (list : List Axis) → distinct list ≡ true → (d : Extents) (n : ℕ) (p : Coordinates) → ((a : Axis) → Ordered (d a)) → n < cellsOver list d → numberOver list d (pointOver list d n p) ≡ n
+pub number-over : (list : List Axis) → distinct list ≡ true → (d : Extents) (n : ℕ) (p : Coordinates) → ((a : Axis) → Ordered (d a)) → n < cellsOver list d → numberOver list d (pointOver list d n p) ≡ n
 number-over [] h d n p g l = omega arith
 number-over (a ∷ rest) h d n p g l =
     let s = size-some (d a) (g a) in
@@ -58,7 +54,7 @@ number-over (a ∷ rest) h d n p g l =
     let k = ap (stepOf (d a)) (put-same q a c) ∙ step-coord (d a) n (p a) (g a) in
     rw (j, i, k) (div-add-mod' n (sizeOf (d a)))
 
-step-below : (r : Option Range) (v : ℤ) → Holds r v → stepOf r v < sizeOf r
+pub step-below : (r : Option Range) (v : ℤ) → Holds r v → stepOf r v < sizeOf r
 step-below None v h = omega arith
 step-below (Some r) v h =
     let e = above-one (r .lo) (r .hi) (omega (arith, ints)) in
@@ -72,11 +68,11 @@ coord-step (Some r) m v h =
     let e = mod-mul-add m (width r) (above (v -ℤ r .lo)) (step-below (Some r) v h) in
     rw e (omega (arith, ints))
 
-below-over : (list : List Axis) (d : Extents) (p : Coordinates) → Inside d p → numberOver list d p < cellsOver list d
+pub below-over : (list : List Axis) (d : Extents) (p : Coordinates) → Inside d p → numberOver list d p < cellsOver list d
 below-over [] d p h = omega arith
 below-over (a ∷ rest) d p h = mul-add-lt (numberOver rest d p) (sizeOf (d a)) (stepOf (d a) (p a)) (cellsOver rest d) (below-over rest d p h) (step-below (d a) (p a) (h a))
 
-point-over : (list : List Axis) (d : Extents) (p : Coordinates) → Inside d p → (b : Axis) → pointOver list d (numberOver list d p) p b ≡ p b
+pub point-over : (list : List Axis) (d : Extents) (p : Coordinates) → Inside d p → (b : Axis) → pointOver list d (numberOver list d p) p b ≡ p b
 point-over [] d p h b = refl
 point-over (a ∷ rest) d p h b =
     let e = div-mul-add (numberOver rest d p) (sizeOf (d a)) (stepOf (d a) (p a)) (step-below (d a) (p a) (h a)) in

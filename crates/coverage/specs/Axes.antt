@@ -1,8 +1,8 @@
 -- Axes, domains and points: every rule is one recursion over the list of axes.
 use mathlib.Core.Path.{_≡_}
 use mathlib.Core.List.{List, [], _∷_}
-use mathlib.Core.Bool.{Bool, true, false, cond, _&&_}
-use Prim.Native.Nat.{ℕ, zero, suc, _+_, _*_, _/_, _%_}
+use mathlib.Core.Bool.{Bool, true, false, cond, not, _&&_}
+use Prim.Native.Nat.{ℕ, zero, suc, _+_, _*_, _/_, _%_, _<_, _≤_}
 use lib.Dec.{leb, eqb}
 use lib.IntN.{ℤ, pos, negsuc, _+ℤ_, _-ℤ_}
 use lib.Signed.{leZ, _≤ℤ_}
@@ -54,6 +54,10 @@ coordinates p X = p .x
 coordinates p Y = p .y
 coordinates p T = p .t
 
+-- the point with coordinate 0 on every axis
+abbrev pub origin : Coordinates
+origin a = pos 0
+
 -- the domain of a single value
 abbrev pub noExtents : Extents
 noExtents a = None
@@ -102,6 +106,11 @@ abbrev pub onAxis : Option Range → ℤ → Bool
 onAxis None v = true
 onAxis (Some r) v = inRange r v
 
+-- the lowest coordinate of an axis, 0 where it is absent
+abbrev pub lowestOn : Option Range → ℤ
+lowestOn None = pos 0
+lowestOn (Some r) = r .lo
+
 -- how far a coordinate stands from the lowest of its axis
 abbrev pub stepOf : Option Range → ℤ → ℕ
 stepOf None v = 0
@@ -117,6 +126,11 @@ coordOf (Some r) n v = r .lo +ℤ pos (n % width r)
 abbrev pub allOver : (Axis → Bool) → List Axis → Bool
 allOver f [] = true
 allOver f (a ∷ rest) = f a && allOver f rest
+
+-- no axis stands twice
+abbrev pub distinct : List Axis → Bool
+distinct [] = true
+distinct (a ∷ rest) = allOver (λ b. not (sameAxis a b)) rest && distinct rest
 
 abbrev pub cellsOver : List Axis → Extents → ℕ
 cellsOver [] d = 1
@@ -176,3 +190,7 @@ Agree d p q = (a : Axis) → AgreeAt (d a) (p a) (q a)
 abbrev pub Ordered : Option Range → Type 0
 Ordered None = Unit {0}
 Ordered (Some r) = r .lo ≤ℤ r .hi
+
+-- each axis has a place at least, and no more than a coverage may have cells
+abbrev pub Sized : Extents → Type 0
+Sized d = (a : Axis) → (0 < sizeOf (d a)) × (sizeOf (d a) ≤ 65536)

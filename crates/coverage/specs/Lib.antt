@@ -1,2 +1,4 @@
 pub mod Axes
 pub mod Kinds
+pub mod Strips
+pub mod Limits

@@ -1,0 +1,26 @@
+use mathlib.Core.Path.{_≡_, sym, ap₂, _∙_}
+use mathlib.Core.Bool.{Bool, true, false}
+use native.Mathlib.Omega.{arith}
+use lib.ListN.{getD}
+use Rattle.coverage.specs.declared.axis.Axis.{Axis}
+use Rattle.coverage.specs.declared.axis.Axis.the-variants.{X}
+use Rattle.coverage.specs.Axes.{axes, extents, sameRange}
+use Rattle.coverage.proofs.Loops.{all-fails, all-goes-on, all-ends}
+use Rattle.coverage.proofs.domain.Domain.is_same.Needs as need
+
+pub returns-then-not-same-axis : need.returns-then-not-same-axis
+returns-then-not-same-axis c =
+    let f : Axis → Bool = λ a. sameRange (extents (c .args .self) a) (extents (c .args .other) a) in
+    let e : f (getD axes (c .loop-axis .axis-index) X) ≡ false = ap₂ sameRange (sym (c .on .ensures)) (sym (c .on-in-loop-axis .ensures)) ∙ sym (c .if-not-same-axis .ensures tt) in
+    sym (c .loop-axis .inv ∙ all-fails f axes (c .loop-axis .axis-index) (c .loop-axis-test .taken) e)
+
+pub loop-axis-again : need.loop-axis-again
+loop-axis-again c =
+    let f : Axis → Bool = λ a. sameRange (extents (c .args .self) a) (extents (c .args .other) a) in
+    let e : f (getD axes (c .loop-axis .axis-index) X) ≡ true = ap₂ sameRange (sym (c .on .ensures)) (sym (c .on-in-loop-axis .ensures)) ∙ sym (c .if-not-same-axis .ensures tt) in
+    c .loop-axis .inv ∙ all-goes-on f axes (c .loop-axis .axis-index) (c .loop-axis-test .taken) e
+
+pub returns : need.returns
+returns c =
+    let f : Axis → Bool = λ a. sameRange (extents (c .args .self) a) (extents (c .args .other) a) in
+    sym (c .loop-axis .inv ∙ all-ends f axes (c .loop-axis .axis-index) (omega arith))

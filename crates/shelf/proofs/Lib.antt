@@ -1,0 +1,4 @@
+pub mod Settled
+pub mod Fits
+pub mod Single
+pub mod Shapes

@@ -1,0 +1,4 @@
+pub mod Pastes
+pub mod Cells
+pub mod Grids
+pub mod Makings
