@@ -15,6 +15,7 @@ use Rattle.coverage.specs.declared.range.Range.{Range}
 use Rattle.coverage.specs.declared.kind.Kind.{Kind}
 use Rattle.coverage.specs.declared.kind.Kind.the-variants.{Truth, Number}
 use Rattle.coverage.specs.Axes.{cells}
+use Rattle.coverage.specs.Limits.{kindNarrow}
 use Rattle.coverage.specs.Kinds.{low, high}
 use Rattle.coverage.proofs.Bools.{and-left, and-right}
 use Rattle.syntax.specs.declared.Unary.{Unary}
@@ -30,8 +31,8 @@ use Rattle.language.specs.Operators.{arithmetic}
 use Rattle.language.specs.Spans.{lowest, highest, corners, unaryKind, binaryKind, foldKind, widened, reduceKind}
 use Rattle.language.specs.Iterators.{Ranges, iteratorExtents, bindRanges, ownAxes}
 use Rattle.language.specs.Typing.{About, Described, namedKind, iteratorKind, domainOf, kindOf, promiseOf}
-use Rattle.language.specs.Faults.{widest, mostReads, spanInBounds, isBound, faultOf}
-use Rattle.language.specs.Laws.{SmallIterators, Small, InBounds, RangeInBounds, BoundedShelf}
+use Rattle.language.specs.Faults.{mostReads, isBound, faultOf}
+use Rattle.language.specs.Laws.{widest, SmallIterators, Small, InBounds, RangeInBounds, BoundedShelf}
 use Rattle.language.proofs.Corners.{mul-up}
 use Rattle.language.proofs.Domains.{own-ordered}
 use Rattle.language.proofs.Rules.{InLimits, name-accepted, unary-accepted, binary-accepted, reduce-accepted, trim-accepted, slice-accepted, condense-accepted, where-accepted, form-accepted}
@@ -93,7 +94,7 @@ reduce-ordered Count n k h = omega (linear, ints)
 
 -- ---- spans
 
-tested : (k : Kind) → spanInBounds k ≡ true → low k ≤ℤ high k → InBounds k
+tested : (k : Kind) → kindNarrow k ≡ true → low k ≤ℤ high k → InBounds k
 tested k t o =
     let a = and-left (leZ (negℤ (pos widest)) (low k)) _ t in
     let b = and-right (leZ (negℤ (pos widest)) (low k)) _ t in

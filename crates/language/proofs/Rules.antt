@@ -13,6 +13,7 @@ use Rattle.coverage.specs.declared.range.Range.{Range}
 use Rattle.coverage.specs.declared.kind.Kind.{Kind}
 use Rattle.coverage.specs.declared.refusal.Refusal.{Refusal}
 use Rattle.coverage.specs.Axes.{Extents, noAxes, isNone, cells}
+use Rattle.coverage.specs.Limits.{kindNarrow, few}
 use Rattle.coverage.proofs.Bools.{and-left, and-right}
 use Rattle.syntax.specs.declared.Unary.{Unary}
 use Rattle.syntax.specs.declared.Binary.{Binary}
@@ -23,7 +24,8 @@ use Rattle.language.specs.Spans.{spanOf, holdsZero, unaryKind, binaryKind, fol
 use Rattle.language.specs.Fits.{aNumber, aTruth, fitsAs, unaryExpects, operandsFit, foldExpects, reduceExpects}
 use Rattle.language.specs.Iterators.{Ranges, iteratorExtents, bindRanges, newWords, ownAxes}
 use Rattle.language.specs.Typing.{Described, domainOf, kindOf, promiseOf}
-use Rattle.language.specs.Faults.{mostCells, mostReads, unless, first, spanInBounds, limitsFault, domainsFit, isBound, nameFault, iteratorFault, unaryFault, isDivision, divisorFault, binaryFault, reduceFault, trimInside, trimFault, positionInside, sliceFault, iteratorsFault, bodyFits, whereFits, condenseFault, condenseWhereFault, formFault, faultOf}
+use Rattle.language.specs.Laws.{mostCells}
+use Rattle.language.specs.Faults.{mostReads, unless, first, limitsFault, domainsFit, isBound, nameFault, iteratorFault, unaryFault, isDivision, divisorFault, binaryFault, reduceFault, trimInside, trimFault, positionInside, sliceFault, iteratorsFault, bodyFits, whereFits, condenseFault, condenseWhereFault, formFault, faultOf}
 
 -- ---- refusals in order
 
@@ -42,21 +44,21 @@ pub passes : (b : Bool) (n place : ℕ) → unless b n place ≡ None → b ≡ 
 passes true n place e = refl
 passes false n place e = none-some e
 
-pub few : (n place : ℕ) → unless (leb n mostReads) 11 place ≡ None → n ≤ mostReads
-few n place e = leb-true _ _ (passes (leb n mostReads) 11 place e)
+pub low-promise : (n place : ℕ) → unless (leb n mostReads) 11 place ≡ None → n ≤ mostReads
+low-promise n place e = leb-true _ _ (passes (leb n mostReads) 11 place e)
 
 -- ---- tests that several rules have
 
 -- the span is within the bounds, the promise no higher than allowed
 pub record InLimits (k : Kind) (n : ℕ) : Type 0 where
-  pub span : spanInBounds k ≡ true
+  pub span : kindNarrow k ≡ true
   pub few : n ≤ mostReads
 
 in-limits : (k : Kind) (n place : ℕ) → limitsFault k n place ≡ None → InLimits k n
 unfolding limitsFault
 in-limits k n place e =
-    let s = unless (spanInBounds k) 9 place in
-    record { span = passes (spanInBounds k) 9 place (one s (unless (leb n mostReads) 11 place) e); few = few n place (two s (unless (leb n mostReads) 11 place) e) }
+    let s = unless (kindNarrow k) 9 place in
+    record { span = passes (kindNarrow k) 9 place (one s (unless (leb n mostReads) 11 place) e); few = low-promise n place (two s (unless (leb n mostReads) 11 place) e) }
 
 pub record OwnIterators (is : List Iterator) : Type 0 where
   pub own : ownAxes is ≡ true
@@ -67,8 +69,8 @@ unfolding iteratorsFault
 own-iterators g is place e =
     let rest = two (unless (newWords is g) 5 place) _ e in
     let o = unless (ownAxes is) 6 place in
-    let c = unless (leb (cells (iteratorExtents is)) mostCells) 10 place in
-    record { own = passes (ownAxes is) 6 place (one o c rest); few = leb-true _ _ (passes (leb (cells (iteratorExtents is)) mostCells) 10 place (two o c rest)) }
+    let c = unless (few (iteratorExtents is)) 10 place in
+    record { own = passes (ownAxes is) 6 place (one o c rest); few = leb-true _ _ (passes (few (iteratorExtents is)) 10 place (two o c rest)) }
 
 -- ---- each construct
 
@@ -190,7 +192,7 @@ module _ (about : Described) (g : Ranges) (place : ℕ) where
         inside = and-right (not twice) _ (passes t 6 place (one (unless t 6 place) (first (unless s 7 place) l) r2));
         fits = and-left (fitsAs aNumber k) _ b;
         single = and-right (fitsAs aNumber k) _ b;
-        few = few n place (two (unless s 7 place) l r3);
+        few = low-promise n place (two (unless s 7 place) l r3);
       }
 
 -- ---- forms: the body is accepted with the iterators in use

@@ -11,10 +11,9 @@ use Rattle.coverage.specs.Axes.{Coordinates, cells, Inside, Agree, Ordered}
 use Rattle.coverage.specs.Kinds.{Within}
 use Rattle.syntax.specs.Tree.{Word, Binding}
 use Rattle.language.specs.Typing.{About, Described}
-use Rattle.language.specs.Faults.{mostCells}
 use Rattle.language.specs.Values.{Looks}
 use Rattle.language.specs.Queries.{standsFor, describedAs, lookedAt, bindAbout, bindLooks}
-use Rattle.language.specs.Laws.{OrderedDomains, CellsOfTheirKind, SoundShelf, KnownCellsStay, Known, AllKnown, CellsAlike, InBounds, BoundedShelf}
+use Rattle.language.specs.Laws.{mostCells, OrderedDomains, CellsOfTheirKind, SoundShelf, KnownCellsStay, Known, AllKnown, CellsAlike, InBounds, BoundedShelf}
 
 none-found : {B : Type 0} {a : About} → _≡_ {A = Option About} None (Some a) → B
 none-found e = let z : _≡_ {A = ℕ} 0 1 = cc in absurd (omega linear)

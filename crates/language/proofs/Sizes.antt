@@ -19,8 +19,8 @@ use Rattle.coverage.proofs.Points.{axis-of, above-one}
 use Rattle.syntax.specs.Tree.{Word, Expr, at, numeral, truth, name, iterator, unary, binary, reduce, trim, slice, condense, condenseWhere, form}
 use Rattle.language.specs.Iterators.{Ranges}
 use Rattle.language.specs.Typing.{About, Described, namedExtents, domainOf}
-use Rattle.language.specs.Faults.{mostCells, trimInside, isBound, faultOf}
-use Rattle.language.specs.Laws.{BoundedShelf}
+use Rattle.language.specs.Faults.{trimInside, isBound, faultOf}
+use Rattle.language.specs.Laws.{mostCells, BoundedShelf}
 use Rattle.language.proofs.Rules.{name-accepted, unary-accepted, binary-accepted, trim-accepted, slice-accepted, form-accepted}
 use Rattle.language.proofs.Within.{domain-ordered}
 

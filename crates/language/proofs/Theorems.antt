@@ -13,7 +13,7 @@ use Rattle.std.specs.declared.result.Result.the-variants.{Ok, Err}
 use Rattle.coverage.specs.declared.axis.Axis.{Axis}
 use Rattle.coverage.specs.declared.refusal.Refusal.{Refusal}
 use Rattle.coverage.specs.declared.range.Range.{Range}
-use Rattle.coverage.specs.Axes.{Extents, Coordinates, cells, pointAt, Inside, AgreeAt, Agree}
+use Rattle.coverage.specs.Axes.{Extents, Coordinates, cells, pointAt, Inside, AgreeAt, Agree, origin}
 use Rattle.coverage.specs.Kinds.{Within}
 use Rattle.coverage.proofs.Points.{point-inside}
 use Rattle.coverage.proofs.Numbers.{number-point, number-below, point-number}
@@ -21,10 +21,10 @@ use Rattle.syntax.specs.Tree.{Word, Expr, Query}
 use Rattle.language.specs.Operators.{arithmetic}
 use Rattle.language.specs.Iterators.{noRanges}
 use Rattle.language.specs.Typing.{Described, domainOf, promiseOf}
-use Rattle.language.specs.Faults.{mostCells, mostReads, first, unless, faultOf}
+use Rattle.language.specs.Faults.{mostReads, first, unless, faultOf}
 use Rattle.language.specs.Values.{Looks}
-use Rattle.language.specs.Queries.{bindAbout, bindLooks, bindingsFault, queryDomain, queryPromise, queryFault, Announced, announced, unlessRefused, checked, noPlaces, origin, cellAt, cellReads, reads}
-use Rattle.language.specs.Laws.{SoundShelf, KnownCellsStay, CellsAlike, BoundedShelf, InBounds, ValuesLieInTheirSpan, ReadsStayWithinThePromise, KnownCellsNeverChange, Known, AllKnown, NoWhere, NothingNullReadsThePromise, AnswersDependOnlyOnCellsInside, AcceptedKeepsTheLimits, FourPairsBoundEveryResult, QuotientsDropTheFraction, CellsAndPointsNumberEachOther}
+use Rattle.language.specs.Queries.{bindAbout, bindLooks, bindingsFault, queryDomain, queryPromise, queryFault, Announced, announced, unlessRefused, checked, noPlaces, cellAt, cellReads, reads}
+use Rattle.language.specs.Laws.{mostCells, SoundShelf, KnownCellsStay, CellsAlike, BoundedShelf, InBounds, ValuesLieInTheirSpan, ReadsStayWithinThePromise, KnownCellsNeverChange, Known, AllKnown, NoWhere, NothingNullReadsThePromise, AnswersDependOnlyOnCellsInside, AcceptedKeepsTheLimits, FourPairsBoundEveryResult, QuotientsDropTheFraction, CellsAndPointsNumberEachOther}
 use Rattle.language.proofs.Rules.{one, two, passes}
 use Rattle.language.proofs.Quotients.{quotient-left, quotient-right, drops-less, drops-toward-zero}
 use Rattle.language.proofs.Operands.{arithmetic-in}

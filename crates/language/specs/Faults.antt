@@ -5,7 +5,6 @@ use mathlib.Core.List.{List}
 use mathlib.Core.Bool.{Bool, true, false, cond, _&&_, _||_, not}
 use Prim.Native.Nat.{ℕ, _+_, _*_}
 use lib.Dec.{leb}
-use lib.IntN.{ℤ, pos, negℤ}
 use lib.Signed.{leZ}
 use Rattle.std.specs.declared.option.Option.{Option}
 use Rattle.std.specs.declared.option.Option.the-variants.{Some, None}
@@ -17,6 +16,7 @@ use Rattle.coverage.specs.declared.refusal.Layer.the-variants.{Check}
 use Rattle.coverage.specs.declared.refusal.Returned.the-variants.{One}
 use Rattle.coverage.specs.Axes.{Extents, noAxes, sameDomain, isNone, cells}
 use Rattle.coverage.specs.Kinds.{low, high}
+use Rattle.coverage.specs.Limits.{kindNarrow, few}
 use Rattle.syntax.specs.declared.Unary.{Unary}
 use Rattle.syntax.specs.declared.Arithmetic.the-variants.{Plus, Subtract, Multiply, Divide}
 use Rattle.syntax.specs.declared.Binary.{Binary}
@@ -29,15 +29,7 @@ use Rattle.language.specs.Fits.{aNumber, aTruth, fitsAs, unaryExpects, operand
 use Rattle.language.specs.Iterators.{Ranges, iteratorExtents, bindRanges, newWords, ownAxes}
 use Rattle.language.specs.Typing.{About, Described, domainOf, kindOf, promiseOf}
 
--- ---- the limits
-
--- no span reaches beyond this number, nor below its opposite
-abbrev pub widest : ℕ
-widest = 2147483647
-
--- no domain has more cells, no iteration more points
-abbrev pub mostCells : ℕ
-mostCells = 65536
+-- ---- the limit of promises: those of spans and cells hold of shelves too
 
 -- no promise, for a cell or of a query, is higher
 abbrev pub mostReads : ℕ
@@ -58,12 +50,9 @@ first (Some r) y = Some r
 
 -- ---- tests that several rules have
 
-abbrev pub spanInBounds : Kind → Bool
-spanInBounds k = leZ (negℤ (pos widest)) (low k) && leZ (high k) (pos widest)
-
 -- 9: the span beyond the bounds; 11: the promise for a cell too high
 unfoldable pub limitsFault : Kind → ℕ → ℕ → Option Refusal
-limitsFault k promise place = first (unless (spanInBounds k) 9 place) (unless (leb promise mostReads) 11 place)
+limitsFault k promise place = first (unless (kindNarrow k) 9 place) (unless (leb promise mostReads) 11 place)
 
 -- equal domains, or one without axes
 abbrev pub domainsFit : Extents → Extents → Bool
@@ -133,7 +122,7 @@ sliceFault twice axis d k promise place =
 unfoldable pub iteratorsFault : Ranges → List Iterator → ℕ → Option Refusal
 iteratorsFault g is place =
     first (unless (newWords is g) 5 place) (
-    first (unless (ownAxes is) 6 place) (unless (leb (cells (iteratorExtents is)) mostCells) 10 place))
+    first (unless (ownAxes is) 6 place) (unless (few (iteratorExtents is)) 10 place))
 
 -- the body of a condense form: of the kind that the operator takes, without axes
 abbrev pub bodyFits : Fold → Extents → Kind → Bool

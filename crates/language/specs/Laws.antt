@@ -23,7 +23,7 @@ use Rattle.language.specs.Operators.{arithmetic, quotient}
 use Rattle.language.specs.Spans.{corners, holdsZero}
 use Rattle.language.specs.Iterators.{Ranges, noRanges}
 use Rattle.language.specs.Typing.{About, Described, domainOf, kindOf, promiseOf}
-use Rattle.language.specs.Faults.{widest, mostCells, mostReads, isDivision, faultOf}
+use Rattle.language.specs.Faults.{mostReads, isDivision, faultOf}
 use Rattle.language.specs.Values.{Looks, valueAt}
 use Rattle.language.specs.Reads.{readsAt}
 use Rattle.language.specs.Queries.{Announced, checked, cellAt, cellReads, reads, bindAbout, noPlaces}
@@ -109,6 +109,14 @@ pub record AnswersDependOnlyOnCellsInside : Type 0 where
       (valueAt about look noPlaces e p ≡ valueAt about other noPlaces e q) × (readsAt about look noPlaces e p ≡ readsAt about other noPlaces e q)
 
 -- ---- the limits of what is accepted
+
+-- no span reaches beyond this number, nor below its opposite
+abbrev pub widest : ℕ
+widest = 2147483647
+
+-- no domain has more cells, no iteration more points
+abbrev pub mostCells : ℕ
+mostCells = 65536
 
 -- numerals, and the ends of iterators, are within the widest span: the text answers for that
 abbrev pub SmallIterators : List Iterator → Type 0

@@ -11,7 +11,7 @@ use Rattle.std.specs.declared.result.Result.{Result}
 use Rattle.std.specs.declared.result.Result.the-variants.{Ok, Err}
 use Rattle.coverage.specs.declared.kind.Kind.{Kind}
 use Rattle.coverage.specs.declared.refusal.Refusal.{Refusal}
-use Rattle.coverage.specs.Axes.{Extents, Coordinates, cells, pointAt}
+use Rattle.coverage.specs.Axes.{Extents, Coordinates, origin, cells, pointAt}
 use Rattle.syntax.specs.Tree.{Word, Expr, Binding, Query}
 use Rattle.language.specs.Iterators.{Places, noRanges}
 use Rattle.language.specs.Typing.{About, Described, domainOf, kindOf, promiseOf}
@@ -93,9 +93,6 @@ checked find q = unlessRefused (queryFault find q) (announced find q)
 
 abbrev pub noPlaces : Places
 noPlaces w = pos 0
-
-abbrev pub origin : Coordinates
-origin a = pos 0
 
 -- cell n of the answer, x innermost, then y, then t: each is worked out alone
 abbrev pub cellAt : Described → Looks → Query → ℕ → Option ℤ

@@ -1,7 +1,6 @@
 //! The spans of results, as code. Every function takes and answers (lowest, highest) pairs of i64, and
 //! what it answers is what the definitions of the query language say, for every pair in bounds.
 pub mod arithmetic;
-pub mod bounds;
 pub mod ends;
 pub mod shapes;
 
@@ -9,10 +8,8 @@ pub use arithmetic::difference;
 pub use arithmetic::product;
 pub use arithmetic::quotient;
 pub use arithmetic::sum;
-pub use bounds::WIDEST;
-pub use bounds::holds_zero;
-pub use bounds::in_bounds;
 pub use ends::Span;
+pub use shapes::holds_zero;
 pub use shapes::hull;
 pub use shapes::magnitude;
 pub use shapes::negation;

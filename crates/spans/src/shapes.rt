@@ -1,11 +1,11 @@
-// Spans made of spans: turned over, by magnitude, joined, many times over, widened.
+// Spans made of spans: turned over, by magnitude, joined, many times over, widened; and where 0 lies.
 use crate::ends::Span;
 use crate::ends::higher;
 use crate::ends::lower;
 ghost use mathlib.Core.Path.{_≡_};
 ghost use Prim.Native.Nat.{_≤_};
-ghost use Rattle.language.specs.Spans.{negated, magnitudes, hull as hullOf, times as timesOf, withZero};
-ghost use Rattle.language.specs.Faults.{mostCells};
+ghost use Rattle.language.specs.Spans.{negated, magnitudes, hull as hullOf, times as timesOf, withZero, holdsZero};
+ghost use Rattle.language.specs.Laws.{mostCells};
 ghost use Rattle.spans.specs.Pairs.{spanned, Bounded};
 
 /// The span of prefix `-`: l to h turns into -h to -l.
@@ -47,4 +47,11 @@ pub fn with_zero(a: Span) -> Span
     ensures { λ r. ⌜ spanned r ≡ withZero (spanned a) ⌝ }
 {
     (lower(0, a.0), higher(0, a.1))
+}
+
+/// Whether 0 lies in a span.
+pub fn holds_zero(a: Span) -> bool
+    ensures { λ r. ⌜ r ≡ holdsZero (spanned a) ⌝ }
+{
+    a.0 <= 0 && 0 <= a.1
 }
