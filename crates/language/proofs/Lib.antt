@@ -15,3 +15,5 @@ pub mod Shelves
 pub mod Theorems
 pub mod Examples
 pub mod Exact
+pub mod Bound
+pub mod Answered

@@ -5,7 +5,9 @@ use mathlib.Core.Bool.{false, _&&_}
 use mathlib.Core.Logic.{_⊎_}
 use Prim.Native.Nat.{ℕ, _≤_, _<_}
 use lib.IntN.{ℤ, pos, _-ℤ_, _*ℤ_, negℤ, natAbs}
+use lib.ListN.{length}
 use lib.Signed.{_≤ℤ_, _<ℤ_}
+use Rattle.std.specs.Finite.{nth}
 use Rattle.std.specs.Numbers.{minZ, maxZ}
 use Rattle.std.specs.declared.option.Option.{Option}
 use Rattle.std.specs.declared.option.Option.the-variants.{Some, None}
@@ -18,7 +20,7 @@ use Rattle.coverage.specs.Axes.{Extents, Coordinates, cells, numberAt, pointAt,
 use Rattle.coverage.specs.Kinds.{low, high, Within}
 use Rattle.syntax.specs.declared.Arithmetic.{Arithmetic}
 use Rattle.syntax.specs.declared.Binary.the-variants.{Numbers}
-use Rattle.syntax.specs.Tree.{Word, Iterator, Expr, at, numeral, truth, name, iterator, unary, binary, reduce, trim, slice, condense, condenseWhere, form, Query}
+use Rattle.syntax.specs.Tree.{Word, Iterator, Expr, at, numeral, truth, name, iterator, unary, binary, reduce, trim, slice, condense, condenseWhere, form, Binding, Query}
 use Rattle.language.specs.Operators.{arithmetic, quotient}
 use Rattle.language.specs.Spans.{corners, holdsZero}
 use Rattle.language.specs.Iterators.{Ranges, noRanges}
@@ -26,7 +28,7 @@ use Rattle.language.specs.Typing.{About, Described, domainOf, kindOf, promiseO
 use Rattle.language.specs.Faults.{mostReads, isDivision, faultOf}
 use Rattle.language.specs.Values.{Looks, valueAt}
 use Rattle.language.specs.Reads.{readsAt}
-use Rattle.language.specs.Queries.{Announced, checked, cellAt, cellReads, reads, bindAbout, noPlaces}
+use Rattle.language.specs.Queries.{Announced, checked, queryDomain, cellAt, cellReads, answer, reads, bindAbout, noPlaces}
 
 -- ---- what the laws ask of a shelf
 
@@ -107,6 +109,22 @@ pub record AnswersDependOnlyOnCellsInside : Type 0 where
   pub at-a-point : (about : Described) (look other : Looks) → SoundShelf about look → CellsAlike about look other →
       (place : ℕ) (e : Expr) → faultOf about noRanges place e ≡ None → (p q : Coordinates) → Inside (domainOf about e) p → Agree (domainOf about e) p q →
       (valueAt about look noPlaces e p ≡ valueAt about other noPlaces e q) × (readsAt about look noPlaces e p ≡ readsAt about other noPlaces e q)
+
+-- a fact of every name that a query binds
+abbrev pub EachBound : List Binding → (Word → Type 0) → Type 0
+EachBound [] P = Unit {0}
+EachBound (b ∷ rest) P = P (b .coverage) × EachBound rest P
+
+-- a check sees only the descriptions, and a run only the cells, of the coverages that its query binds
+pub record QueriesSeeOnlyWhatTheyBind : Type 0 where
+  pub in-the-check : (find other : Described) (q : Query) → EachBound (q .bindings) (λ n. find n ≡ other n) → checked find q ≡ checked other q
+  pub in-the-run : (find other : Described) (look seen : Looks) (q : Query) → EachBound (q .bindings) (λ n. find n ≡ other n) → EachBound (q .bindings) (λ n. (p : Coordinates) → look n p ≡ seen n p) →
+      (n : ℕ) → (cellAt find look q n ≡ cellAt other seen q n) × (cellReads find look q n ≡ cellReads other seen q n)
+
+-- an answer has a cell for each point of its domain, in their order
+pub record AnswersHoldTheirCells : Type 0 where
+  pub as-many : (find : Described) (look : Looks) (q : Query) → length (answer find look q) ≡ cells (queryDomain find q)
+  pub each-in-place : (find : Described) (look : Looks) (q : Query) (n : ℕ) → n < cells (queryDomain find q) → nth (answer find look q) n ≡ Some (cellAt find look q n)
 
 -- ---- the limits of what is accepted
 

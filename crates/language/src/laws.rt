@@ -1,10 +1,9 @@
 // The laws of queries. The functions do nothing and answer nothing: what each says is its contract.
-ghost use Rattle.language.specs.Laws.{ValuesLieInTheirSpan, ReadsStayWithinThePromise, KnownCellsNeverChange};
-ghost use Rattle.language.specs.Laws.{NothingNullReadsThePromise, AnswersDependOnlyOnCellsInside, AcceptedKeepsTheLimits};
-ghost use Rattle.language.specs.Laws.{FourPairsBoundEveryResult, QuotientsDropTheFraction};
-ghost use Rattle.language.specs.Laws.{CellsAndPointsNumberEachOther};
-ghost use Rattle.language.specs.Worked.{WorkedCases};
 ghost use Rattle.language.specs.Constructs.{ConstructsByExample};
+ghost use Rattle.language.specs.Laws.{AcceptedKeepsTheLimits, AnswersDependOnlyOnCellsInside, AnswersHoldTheirCells, CellsAndPointsNumberEachOther};
+ghost use Rattle.language.specs.Laws.{FourPairsBoundEveryResult, KnownCellsNeverChange, NothingNullReadsThePromise, QueriesSeeOnlyWhatTheyBind};
+ghost use Rattle.language.specs.Laws.{QuotientsDropTheFraction, ReadsStayWithinThePromise, ValuesLieInTheirSpan};
+ghost use Rattle.language.specs.Worked.{WorkedCases};
 
 /// Every cell of an answer is null or a value of the announced kind, within the announced span.
 pub fn values_lie_in_their_announced_span()
@@ -30,6 +29,16 @@ pub fn promises_are_exact_where_nothing_is_null_or_skipped()
 /// Shelves with the same cells inside their domains give the same cells and the same reads.
 pub fn answers_depend_only_on_cells_inside()
     ensures { λ r. ⌜ AnswersDependOnlyOnCellsInside ⌝ }
+{}
+
+/// A check sees only the descriptions, and a run only the cells, of the coverages that the query binds.
+pub fn queries_see_only_what_they_bind()
+    ensures { λ r. ⌜ QueriesSeeOnlyWhatTheyBind ⌝ }
+{}
+
+/// An answer has a cell for each point of its domain, in their order.
+pub fn answers_hold_their_cells_in_order()
+    ensures { λ r. ⌜ AnswersHoldTheirCells ⌝ }
 {}
 
 /// What is accepted has its span in bounds with the ends in order, and no more cells and no higher a
