@@ -9,7 +9,7 @@ use lib.ListN.{length}
 use borrow.Author.Tests.{eqb-true, eqb-false}
 use Rattle.std.specs.Finite.{nth}
 use Rattle.std.specs.declared.option.Option.{Option}
-use Rattle.std.specs.declared.option.Option.the-variants.{Some, None}
+use Rattle.std.specs.declared.option.Option.the-variants.{Some}
 use Rattle.coverage.specs.Axes.{cells}
 use Rattle.coverage.proofs.Bools.{by-test}
 use Rattle.language.specs.Queries.{queryDomain, firstOf, cellAt}

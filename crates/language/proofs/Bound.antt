@@ -1,5 +1,5 @@
 -- A query sees only the coverages that it binds.
-use mathlib.Core.Path.{_≡_, refl, ap}
+use mathlib.Core.Path.{_≡_, refl}
 use mathlib.Core.List.{List, [], _∷_}
 use mathlib.Core.Bool.{Bool, true, false, cond}
 use Prim.Native.Nat.{ℕ, _*_}
@@ -13,7 +13,7 @@ use Rattle.std.specs.declared.result.Result.{Result}
 use Rattle.coverage.specs.Axes.{Coordinates, origin, cells, pointAt}
 use Rattle.syntax.specs.Tree.{Word, Binding, Query}
 use Rattle.language.specs.Iterators.{noRanges}
-use Rattle.language.specs.Typing.{About, Described, domainOf, kindOf, promiseOf}
+use Rattle.language.specs.Typing.{Described, domainOf, kindOf, promiseOf}
 use Rattle.language.specs.Faults.{mostReads, first, unless, faultOf}
 use Rattle.language.specs.Values.{Looks, valueAt}
 use Rattle.language.specs.Reads.{readsAt}

@@ -1,17 +1,12 @@
 -- Results over the four pairs of span ends.
-use mathlib.Core.Path.{_≡_, refl, sym, ap, subst, _∙_}
-use mathlib.Core.Bool.{Bool, true, false, cond}
-use mathlib.Core.Logic.{_⊎_}
-use Prim.Native.Nat.{ℕ, zero, suc, _+_, _*_, _/_, _≤_, _<_}
+use Prim.Native.Nat.{ℕ, suc, _+_, _*_, _≤_}
 use native.Mathlib.Omega.{arith}
-use lib.IntN.{ℤ, pos, negsuc, _+ℤ_, _-ℤ_, _*ℤ_, negℤ, *ℤ-comm}
-use lib.Signed.{leZ, ltZ, quotZ, _≤ℤ_, _<ℤ_}
-use borrow.Author.Differences.{up, down}
-use Rattle.std.specs.Numbers.{minZ, maxZ}
+use lib.IntN.{ℤ, pos, negsuc, _+ℤ_, _-ℤ_, _*ℤ_, *ℤ-comm}
+use lib.Signed.{_≤ℤ_}
 use Rattle.std.proofs.shelf.Signed.{ints, clamps}
 use Rattle.std.proofs.shelf.Bits.{mul-le}
 use Rattle.language.specs.Spans.{lowest, highest}
-use Rattle.language.specs.Laws.{Between}
+use Rattle.language.specs.Results.{Between}
 
 pub rises : (p q r : ℤ) → p ≤ℤ r → r ≤ℤ q → Between p q r
 rises p q r h k = record { least = omega (arith, ints, clamps); most = omega (arith, ints, clamps) }

@@ -1,7 +1,7 @@
 -- Where nothing is null and nothing is skipped, every value is known and the reads are the promise.
 use mathlib.Core.Path.{_≡_, refl}
 use mathlib.Core.Bool.{true}
-use Prim.Native.Nat.{ℕ, zero, suc, _+_, _*_, _≤_}
+use Prim.Native.Nat.{ℕ, zero, suc, _*_, _≤_}
 use native.Mathlib.Omega.{arith}
 use lib.IntN.{ℤ}
 use borrow.Author.Tests.{clash}
@@ -20,7 +20,8 @@ use Rattle.language.specs.Typing.{About, Described, namedExtents, domainOf, ki
 use Rattle.language.specs.Faults.{isBound, faultOf}
 use Rattle.language.specs.Values.{Looks, ofOne, ofBoth, atPosition, Pick, null, nothing, value, picked, join, gather, outcome, foldOf, valueAt}
 use Rattle.language.specs.Reads.{readsFrom, sumOf, readsAt}
-use Rattle.language.specs.Laws.{OrderedDomains, CellsOfTheirKind, Known, AllKnown, NoWhere, In}
+use Rattle.language.specs.Laws.{OrderedDomains, CellsOfTheirKind, Known, AllKnown, NoWhere}
+use Rattle.language.specs.Results.{In}
 use Rattle.language.proofs.Domains.{pair-inside, trim-inside, iterators-ordered, Stand, bound}
 use Rattle.language.proofs.Rules.{name-accepted, unary-accepted, binary-accepted, reduce-accepted, trim-accepted, slice-accepted, condense-accepted, form-accepted}
 use Rattle.language.proofs.Operands.{position-holds}

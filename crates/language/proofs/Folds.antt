@@ -1,9 +1,9 @@
 -- Many values made one keep to the kind that the rule gives.
-use mathlib.Core.Path.{_≡_, refl}
+use native.Mathlib.Omega.{arith as linear}
+use mathlib.Core.Path.{_≡_}
 use mathlib.Core.Bool.{Bool, true, false, cond}
 use mathlib.Core.Logic.{_⊎_, inl, inr}
 use Prim.Native.Nat.{ℕ, zero, suc, _+_, _*_}
-use native.Mathlib.Omega.{arith as linear}
 use lib.IntN.{ℤ, pos, negsuc, _+ℤ_, _*ℤ_}
 use lib.Signed.{_≤ℤ_}
 use Rattle.std.specs.Numbers.{minZ, maxZ}
@@ -11,7 +11,7 @@ use Rattle.std.proofs.shelf.Signed.{ints, clamps}
 use Rattle.std.specs.declared.option.Option.{Option}
 use Rattle.std.specs.declared.option.Option.the-variants.{Some, None}
 use Rattle.coverage.specs.declared.kind.Kind.{Kind}
-use Rattle.coverage.specs.declared.kind.Kind.the-variants.{Truth, Number}
+use Rattle.coverage.specs.declared.kind.Kind.the-variants.{Truth}
 use Rattle.coverage.specs.Kinds.{low, high, Within}
 use Rattle.syntax.specs.declared.Fold.{Fold}
 use Rattle.syntax.specs.declared.Fold.the-variants.{Sum, Least, Greatest, Every, Any}

@@ -18,7 +18,8 @@ use Rattle.language.specs.Iterators.{Ranges, Places, iteratorExtents, bindRang
 use Rattle.language.specs.Typing.{About, Described, namedExtents, domainOf, kindOf}
 use Rattle.language.specs.Faults.{isBound, faultOf}
 use Rattle.language.specs.Values.{Looks, ofOne, ofBoth, atPosition, Pick, null, nothing, value, picked, pickedWhere, join, gather, ofNothing, outcome, foldOf, valueAt}
-use Rattle.language.specs.Laws.{OrderedDomains, CellsOfTheirKind, KnownCellsStay, In}
+use Rattle.language.specs.Laws.{OrderedDomains, CellsOfTheirKind, KnownCellsStay}
+use Rattle.language.specs.Results.{In}
 use Rattle.language.proofs.Domains.{pair-inside, trim-inside, iterators-ordered, Stand, bound}
 use Rattle.language.proofs.Rules.{name-accepted, unary-accepted, binary-accepted, reduce-accepted, trim-accepted, slice-accepted, condense-accepted, where-accepted, form-accepted}
 use Rattle.language.proofs.Operands.{position-holds}

@@ -1,9 +1,9 @@
 -- Every accepted part has its span in bounds with the ends in order, and a promise no higher than allowed.
+use native.Mathlib.Omega.{arith as linear}
 use mathlib.Core.Path.{_≡_, refl}
 use mathlib.Core.List.{List, [], _∷_}
-use mathlib.Core.Bool.{Bool, true, false, cond, _&&_}
+use mathlib.Core.Bool.{Bool, true, false, cond}
 use Prim.Native.Nat.{ℕ, _≤_}
-use native.Mathlib.Omega.{arith as linear}
 use lib.IntN.{ℤ, pos, negℤ, _*ℤ_, *ℤ-comm}
 use lib.Signed.{leZ, _≤ℤ_}
 use borrow.Author.Tests.{clash}
@@ -13,7 +13,7 @@ use Rattle.std.specs.declared.option.Option.{Option}
 use Rattle.std.specs.declared.option.Option.the-variants.{Some, None}
 use Rattle.coverage.specs.declared.range.Range.{Range}
 use Rattle.coverage.specs.declared.kind.Kind.{Kind}
-use Rattle.coverage.specs.declared.kind.Kind.the-variants.{Truth, Number}
+use Rattle.coverage.specs.declared.kind.Kind.the-variants.{Truth}
 use Rattle.coverage.specs.Axes.{cells}
 use Rattle.coverage.specs.Limits.{kindNarrow}
 use Rattle.coverage.specs.Kinds.{low, high}
@@ -32,10 +32,10 @@ use Rattle.language.specs.Spans.{lowest, highest, corners, unaryKind, binaryKi
 use Rattle.language.specs.Iterators.{Ranges, iteratorExtents, bindRanges, ownAxes}
 use Rattle.language.specs.Typing.{About, Described, namedKind, iteratorKind, domainOf, kindOf, promiseOf}
 use Rattle.language.specs.Faults.{mostReads, isBound, faultOf}
-use Rattle.language.specs.Laws.{widest, SmallIterators, Small, InBounds, RangeInBounds, BoundedShelf}
+use Rattle.language.specs.Limits.{widest, SmallIterators, Small, InBounds, RangeInBounds, BoundedShelf}
 use Rattle.language.proofs.Corners.{mul-up}
 use Rattle.language.proofs.Domains.{own-ordered}
-use Rattle.language.proofs.Rules.{InLimits, name-accepted, unary-accepted, binary-accepted, reduce-accepted, trim-accepted, slice-accepted, condense-accepted, where-accepted, form-accepted}
+use Rattle.language.proofs.Rules.{name-accepted, unary-accepted, binary-accepted, reduce-accepted, trim-accepted, slice-accepted, condense-accepted, where-accepted, form-accepted}
 
 -- ---- promises
 

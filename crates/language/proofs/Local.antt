@@ -1,10 +1,9 @@
 -- A cell depends only on cells inside the coverages' domains and on the coordinates of its own axes; so do its reads.
 use mathlib.Core.Path.{_≡_, refl, sym, ap, subst}
 use mathlib.Core.List.{List, [], _∷_}
-use mathlib.Core.Bool.{Bool, true, false, cond, _&&_, _||_, not}
-use Prim.Native.Nat.{ℕ, zero, suc, _+_, _/_}
+use mathlib.Core.Bool.{Bool, true, false, cond, _||_, not}
+use Prim.Native.Nat.{ℕ, zero, suc, _/_}
 use lib.IntN.{ℤ}
-use lib.Signed.{_≤ℤ_}
 use borrow.Author.Tests.{clash, eq-eqb}
 use Rattle.std.specs.shelf.Text.{sameBytes}
 use Rattle.std.specs.declared.option.Option.{Option}
@@ -24,7 +23,8 @@ use Rattle.language.specs.Typing.{About, Described, namedExtents, jointExtents
 use Rattle.language.specs.Faults.{domainsFit, isBound, faultOf}
 use Rattle.language.specs.Values.{Looks, ofOne, atPosition, Pick, picked, gather, outcome, foldOf, valueAt}
 use Rattle.language.specs.Reads.{readsFrom, sumOf, readsAt}
-use Rattle.language.specs.Laws.{OrderedDomains, CellsOfTheirKind, CellsAlike, In}
+use Rattle.language.specs.Laws.{OrderedDomains, CellsOfTheirKind, CellsAlike}
+use Rattle.language.specs.Results.{In}
 use Rattle.language.proofs.Domains.{pair-inside, trim-inside, iterators-ordered, Stand, bound}
 use Rattle.language.proofs.Rules.{name-accepted, iterator-accepted, unary-accepted, binary-accepted, reduce-accepted, trim-accepted, slice-accepted, condense-accepted, where-accepted, form-accepted}
 use Rattle.language.proofs.Operands.{position-holds}

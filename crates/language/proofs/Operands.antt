@@ -1,13 +1,11 @@
 -- Each operation keeps to the kind that its rule gives it.
+use native.Mathlib.Omega.{arith as linear}
 use mathlib.Core.Path.{_≡_, refl, sym}
 use mathlib.Core.Bool.{Bool, true, false, cond, _&&_, _||_, not}
 use mathlib.Core.Logic.{_⊎_, inl, inr}
-use Prim.Native.Nat.{ℕ}
-use native.Mathlib.Omega.{arith as linear}
-use lib.IntN.{ℤ, pos, negsuc, _+ℤ_, _-ℤ_, _*ℤ_, negℤ, natAbs}
-use lib.Signed.{leZ, _≤ℤ_, _<ℤ_}
+use lib.IntN.{ℤ, pos}
+use lib.Signed.{leZ, _<ℤ_}
 use borrow.Author.Tests.{clash, not-true}
-use Rattle.std.specs.Numbers.{minZ, maxZ}
 use Rattle.std.proofs.shelf.Signed.{ints, clamps}
 use Rattle.std.specs.declared.option.Option.{Option}
 use Rattle.std.specs.declared.option.Option.the-variants.{Some, None}
@@ -15,7 +13,7 @@ use Rattle.coverage.specs.declared.range.Range.{Range}
 use Rattle.coverage.specs.declared.kind.Kind.{Kind}
 use Rattle.coverage.specs.declared.kind.Kind.the-variants.{Truth, Number}
 use Rattle.coverage.specs.Axes.{Holds, isNone}
-use Rattle.coverage.specs.Kinds.{low, high, isTruth, Within}
+use Rattle.coverage.specs.Kinds.{low, high, Within}
 use Rattle.coverage.proofs.Bools.{and-left, and-right}
 use Rattle.syntax.specs.declared.Unary.{Unary}
 use Rattle.syntax.specs.declared.Unary.the-variants.{Minus, Not, Abs}
@@ -23,13 +21,13 @@ use Rattle.syntax.specs.declared.Arithmetic.{Arithmetic}
 use Rattle.syntax.specs.declared.Arithmetic.the-variants.{Plus, Subtract, Multiply, Divide}
 use Rattle.syntax.specs.declared.Binary.{Binary}
 use Rattle.syntax.specs.declared.Binary.the-variants.{Numbers, Overlay, Compares, Truths}
-use Rattle.language.specs.Operators.{bit, isZero, isTrue, arithmetic, overlaid, compares, connects, unaryValue, binaryValue}
-use Rattle.language.specs.Spans.{span, spanOf, number, corners, holdsZero, unaryKind, binaryKind}
+use Rattle.language.specs.Operators.{bit, isZero, isTrue, arithmetic, compares, connects, unaryValue, binaryValue}
+use Rattle.language.specs.Spans.{span, spanOf, corners, holdsZero, unaryKind, binaryKind}
 use Rattle.language.specs.Fits.{aNumber, aTruth, fitsAs}
 use Rattle.language.specs.Typing.{iteratorKind}
 use Rattle.language.specs.Faults.{isDivision, positionInside}
 use Rattle.language.specs.Values.{ofOne, ofBoth, atPosition}
-use Rattle.language.specs.Laws.{In}
+use Rattle.language.specs.Results.{In}
 use Rattle.language.proofs.Corners.{four, add-left, add-right, sub-left, sub-right, mul-left, mul-right}
 use Rattle.language.proofs.Quotients.{quotient-left, quotient-right}
 

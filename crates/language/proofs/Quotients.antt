@@ -9,7 +9,7 @@ use lib.Signed.{quotZ, _≤ℤ_, _<ℤ_}
 use Rattle.std.proofs.shelf.Signed.{ints, clamps}
 use Rattle.std.proofs.shelf.Bits.{mul-le, le-div, div-add-mod', mod-below}
 use Rattle.language.specs.Operators.{quotient}
-use Rattle.language.specs.Laws.{Between}
+use Rattle.language.specs.Results.{Between}
 use Rattle.language.proofs.Corners.{rises, falls}
 
 -- natural quotients rise with the dividend and fall with the divisor

@@ -1,6 +1,6 @@
 -- The span over the four pairs is no wider than the results are: its ends are results themselves.
-use mathlib.Core.Path.{_≡_, refl, subst}
 use native.Mathlib.Omega.{arith as linear}
+use mathlib.Core.Path.{_≡_, refl, subst}
 use lib.IntN.{ℤ}
 use lib.Signed.{leZ, _≤ℤ_}
 use Rattle.std.specs.Numbers.{minZ, maxZ}
@@ -8,7 +8,7 @@ use Rattle.std.proofs.shelf.Signed.{ints, clamps}
 use Rattle.coverage.specs.declared.range.Range.{Range}
 use Rattle.coverage.proofs.Bools.{by-test}
 use Rattle.language.specs.Spans.{corners}
-use Rattle.language.specs.Laws.{Reached}
+use Rattle.language.specs.Results.{Reached}
 
 module _ (f : ℤ → ℤ → ℤ) (a b : Range) where
   min-reached : (v w : ℤ) → Reached f a b v → Reached f a b w → Reached f a b (minZ v w)

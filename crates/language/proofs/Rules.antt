@@ -1,9 +1,9 @@
 -- What acceptance of a construct says of its parts: the fact behind each test that it passed.
+use native.Mathlib.Omega.{arith as linear}
 use mathlib.Core.Path.{_≡_, refl}
 use mathlib.Core.List.{List}
 use mathlib.Core.Bool.{Bool, true, false, _&&_, not}
 use Prim.Native.Nat.{ℕ, _+_, _*_, _≤_}
-use native.Mathlib.Omega.{arith as linear}
 use lib.Dec.{leb}
 use borrow.Author.Tests.{leb-true}
 use Rattle.std.specs.declared.option.Option.{Option}
@@ -12,7 +12,7 @@ use Rattle.coverage.specs.declared.axis.Axis.{Axis}
 use Rattle.coverage.specs.declared.range.Range.{Range}
 use Rattle.coverage.specs.declared.kind.Kind.{Kind}
 use Rattle.coverage.specs.declared.refusal.Refusal.{Refusal}
-use Rattle.coverage.specs.Axes.{Extents, noAxes, isNone, cells}
+use Rattle.coverage.specs.Axes.{noAxes, isNone, cells}
 use Rattle.coverage.specs.Limits.{kindNarrow, few}
 use Rattle.coverage.proofs.Bools.{and-left, and-right}
 use Rattle.syntax.specs.declared.Unary.{Unary}
@@ -24,7 +24,7 @@ use Rattle.language.specs.Spans.{spanOf, holdsZero, unaryKind, binaryKind, fol
 use Rattle.language.specs.Fits.{aNumber, aTruth, fitsAs, unaryExpects, operandsFit, foldExpects, reduceExpects}
 use Rattle.language.specs.Iterators.{Ranges, iteratorExtents, bindRanges, newWords, ownAxes}
 use Rattle.language.specs.Typing.{Described, domainOf, kindOf, promiseOf}
-use Rattle.language.specs.Laws.{mostCells}
+use Rattle.language.specs.Limits.{mostCells}
 use Rattle.language.specs.Faults.{mostReads, unless, first, limitsFault, domainsFit, isBound, nameFault, iteratorFault, unaryFault, isDivision, divisorFault, binaryFault, reduceFault, trimInside, trimFault, positionInside, sliceFault, iteratorsFault, bodyFits, whereFits, condenseFault, condenseWhereFault, formFault, faultOf}
 
 -- ---- refusals in order

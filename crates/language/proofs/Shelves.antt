@@ -1,8 +1,8 @@
 -- What holds of a shelf holds of what `$` words stand for.
-use mathlib.Core.Path.{_≡_, refl}
+use native.Mathlib.Omega.{arith as linear}
+use mathlib.Core.Path.{_≡_}
 use mathlib.Core.List.{List}
 use Prim.Native.Nat.{ℕ, _≤_}
-use native.Mathlib.Omega.{arith as linear}
 use lib.IntN.{ℤ}
 use Rattle.std.specs.declared.option.Option.{Option}
 use Rattle.std.specs.declared.option.Option.the-variants.{Some, None}
@@ -13,7 +13,8 @@ use Rattle.syntax.specs.Tree.{Word, Binding}
 use Rattle.language.specs.Typing.{About, Described}
 use Rattle.language.specs.Values.{Looks}
 use Rattle.language.specs.Queries.{standsFor, describedAs, lookedAt, bindAbout, bindLooks}
-use Rattle.language.specs.Laws.{mostCells, OrderedDomains, CellsOfTheirKind, SoundShelf, KnownCellsStay, Known, AllKnown, CellsAlike, InBounds, BoundedShelf}
+use Rattle.language.specs.Limits.{mostCells, InBounds, BoundedShelf}
+use Rattle.language.specs.Laws.{OrderedDomains, CellsOfTheirKind, SoundShelf, KnownCellsStay, Known, AllKnown, CellsAlike}
 
 none-found : {B : Type 0} {a : About} → _≡_ {A = Option About} None (Some a) → B
 none-found e = let z : _≡_ {A = ℕ} 0 1 = cc in absurd (omega linear)

@@ -2,10 +2,9 @@
 use mathlib.Core.Path.{_≡_, refl, subst}
 use mathlib.Core.List.{List, [], _∷_}
 use mathlib.Core.Bool.{Bool, true, false, cond}
-use Prim.Native.Nat.{ℕ, zero, suc, _*_, _≤_, _<_}
+use Prim.Native.Nat.{ℕ, _≤_}
 use native.Mathlib.Omega.{arith}
-use lib.IntN.{ℤ, pos}
-use lib.Signed.{leZ, _≤ℤ_}
+use lib.Signed.{leZ}
 use borrow.Author.Tests.{clash}
 use Rattle.std.proofs.shelf.Signed.{ints}
 use Rattle.std.proofs.shelf.Bits.{mul-le}
@@ -20,7 +19,7 @@ use Rattle.syntax.specs.Tree.{Word, Expr, at, numeral, truth, name, iterator, u
 use Rattle.language.specs.Iterators.{Ranges}
 use Rattle.language.specs.Typing.{About, Described, namedExtents, domainOf}
 use Rattle.language.specs.Faults.{trimInside, isBound, faultOf}
-use Rattle.language.specs.Laws.{mostCells, BoundedShelf}
+use Rattle.language.specs.Limits.{mostCells, BoundedShelf}
 use Rattle.language.proofs.Rules.{name-accepted, unary-accepted, binary-accepted, trim-accepted, slice-accepted, form-accepted}
 use Rattle.language.proofs.Within.{domain-ordered}
 

@@ -1,8 +1,8 @@
 -- The laws of queries.
-use mathlib.Core.Path.{_≡_, refl, subst, _∙_}
-use mathlib.Core.List.{List, []}
-use Prim.Native.Nat.{ℕ, _≤_}
 use native.Mathlib.Omega.{arith as linear}
+use mathlib.Core.Path.{_≡_, refl, subst, _∙_}
+use mathlib.Core.List.{[]}
+use Prim.Native.Nat.{ℕ, _≤_}
 use lib.Dec.{leb}
 use lib.IntN.{ℤ}
 use borrow.Author.Tests.{leb-true}
@@ -10,21 +10,22 @@ use Rattle.std.specs.declared.option.Option.{Option}
 use Rattle.std.specs.declared.option.Option.the-variants.{Some, None}
 use Rattle.std.specs.declared.result.Result.{Result}
 use Rattle.std.specs.declared.result.Result.the-variants.{Ok, Err}
-use Rattle.coverage.specs.declared.axis.Axis.{Axis}
 use Rattle.coverage.specs.declared.refusal.Refusal.{Refusal}
 use Rattle.coverage.specs.declared.range.Range.{Range}
 use Rattle.coverage.specs.Axes.{Extents, Coordinates, cells, pointAt, Inside, AgreeAt, Agree, origin}
 use Rattle.coverage.specs.Kinds.{Within}
 use Rattle.coverage.proofs.Points.{point-inside}
 use Rattle.coverage.proofs.Numbers.{number-point, number-below, point-number}
-use Rattle.syntax.specs.Tree.{Word, Expr, Query}
+use Rattle.syntax.specs.Tree.{Query}
 use Rattle.language.specs.Operators.{arithmetic}
 use Rattle.language.specs.Iterators.{noRanges}
-use Rattle.language.specs.Typing.{Described, domainOf, promiseOf}
+use Rattle.language.specs.Typing.{Described, promiseOf}
 use Rattle.language.specs.Faults.{mostReads, first, unless, faultOf}
 use Rattle.language.specs.Values.{Looks}
 use Rattle.language.specs.Queries.{bindAbout, bindLooks, bindingsFault, queryDomain, queryPromise, queryFault, Announced, announced, unlessRefused, checked, noPlaces, cellAt, cellReads, reads}
-use Rattle.language.specs.Laws.{mostCells, SoundShelf, KnownCellsStay, CellsAlike, BoundedShelf, InBounds, ValuesLieInTheirSpan, ReadsStayWithinThePromise, KnownCellsNeverChange, Known, AllKnown, NoWhere, NothingNullReadsThePromise, AnswersDependOnlyOnCellsInside, AcceptedKeepsTheLimits, FourPairsBoundEveryResult, QuotientsDropTheFraction, CellsAndPointsNumberEachOther}
+use Rattle.language.specs.Limits.{mostCells, InBounds, AcceptedKeepsTheLimits}
+use Rattle.language.specs.Laws.{SoundShelf, KnownCellsStay, CellsAlike, ValuesLieInTheirSpan, ReadsStayWithinThePromise, KnownCellsNeverChange, Known, AllKnown, NoWhere, NothingNullReadsThePromise, AnswersDependOnlyOnCellsInside, CellsAndPointsNumberEachOther}
+use Rattle.language.specs.Results.{FourPairsBoundEveryResult, QuotientsDropTheFraction}
 use Rattle.language.proofs.Rules.{one, two, passes}
 use Rattle.language.proofs.Quotients.{quotient-left, quotient-right, drops-less, drops-toward-zero}
 use Rattle.language.proofs.Operands.{arithmetic-in}

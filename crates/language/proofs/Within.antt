@@ -1,10 +1,8 @@
 -- A value lies in the announced kind.
+use native.Mathlib.Omega.{arith as linear}
 use mathlib.Core.Path.{_≡_, refl}
 use mathlib.Core.Bool.{Bool, true, false, cond}
 use Prim.Native.Nat.{ℕ}
-use native.Mathlib.Omega.{arith as linear}
-use lib.IntN.{ℤ, pos}
-use lib.Signed.{_≤ℤ_}
 use borrow.Author.Tests.{clash}
 use Rattle.std.proofs.shelf.Signed.{ints}
 use Rattle.std.specs.declared.option.Option.{Option}
@@ -18,7 +16,7 @@ use Rattle.syntax.specs.Tree.{Word, Expr, at, numeral, truth, name, iterator, u
 use Rattle.language.specs.Iterators.{Ranges, Places, iteratorExtents, bindRanges, bindPlaces}
 use Rattle.language.specs.Typing.{About, Described, namedExtents, namedKind, domainOf, kindOf}
 use Rattle.language.specs.Faults.{isBound, faultOf}
-use Rattle.language.specs.Values.{Looks, picked, pickedWhere, valueAt}
+use Rattle.language.specs.Values.{Looks, pickedWhere, valueAt}
 use Rattle.language.specs.Laws.{OrderedDomains, CellsOfTheirKind}
 use Rattle.language.proofs.Domains.{pair-inside, trim-inside, trim-ordered, iterators-ordered, Stand, bound}
 use Rattle.language.proofs.Rules.{name-accepted, iterator-accepted, unary-accepted, binary-accepted, reduce-accepted, trim-accepted, slice-accepted, condense-accepted, where-accepted, form-accepted}

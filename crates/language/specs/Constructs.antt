@@ -8,13 +8,11 @@ use lib.Chars.{codes}
 use lib.IntN.{ℤ, pos, negsuc}
 use Rattle.std.specs.declared.option.Option.{Option}
 use Rattle.std.specs.declared.option.Option.the-variants.{Some, None}
-use Rattle.std.specs.declared.result.Result.the-variants.{Ok}
 use Rattle.coverage.specs.declared.axis.Axis.{Axis}
 use Rattle.coverage.specs.declared.axis.Axis.the-variants.{X, Y, T}
-use Rattle.coverage.specs.declared.kind.Kind.the-variants.{Truth}
 use Rattle.coverage.specs.Axes.{noExtents, setAxis}
 use Rattle.syntax.specs.declared.Unary.the-variants.{Minus, Not, Abs}
-use Rattle.syntax.specs.declared.Arithmetic.the-variants.{Plus, Subtract, Multiply, Divide}
+use Rattle.syntax.specs.declared.Arithmetic.the-variants.{Subtract, Multiply, Divide}
 use Rattle.syntax.specs.declared.Comparison.the-variants.{Equal, Unequal, Less, AtMost, Greater, AtLeast}
 use Rattle.syntax.specs.declared.Logic.the-variants.{And, Or, Xor}
 use Rattle.syntax.specs.declared.Binary.{Binary}
@@ -23,9 +21,10 @@ use Rattle.syntax.specs.declared.Fold.the-variants.{Sum, Least, Greatest, Every
 use Rattle.syntax.specs.declared.Reduce.the-variants.{Whole, Count}
 use Rattle.syntax.specs.Tree.{Iterator, Expr, at, numeral, truth, name, iterator, unary, binary, reduce, trim, slice, condense, condenseWhere, form}
 use Rattle.language.specs.Spans.{span}
-use Rattle.language.specs.Queries.{Announced, checked, answer, reads}
+use Rattle.language.specs.Queries.{checked, answer, reads}
 use Rattle.language.specs.Worked.{roofExtents, roof, both, strip1, c, query, accepts, refuses}
 
+-- six known cells
 abbrev pub cells6 : ℤ → ℤ → ℤ → ℤ → ℤ → ℤ → List (Option ℤ)
 cells6 u v w x y z = Some u ∷ Some v ∷ Some w ∷ Some x ∷ Some y ∷ Some z ∷ []
 
@@ -33,9 +32,11 @@ cells6 u v w x y z = Some u ∷ Some v ∷ Some w ∷ Some x ∷ Some y ∷ Some
 abbrev pub gives : Expr → List (Option ℤ) → Type 0
 gives e list = answer roof both (query e) ≡ list
 
+-- the same of an answer of one known cell
 abbrev pub givesOne : Expr → ℤ → Type 0
 givesOne e v = answer roof both (query e) ≡ Some v ∷ []
 
+-- a numeral
 abbrev pub n : ℕ → Expr
 n k = numeral k
 
@@ -43,6 +44,7 @@ n k = numeral k
 abbrev pub ofNumbers : Binary → ℕ → ℕ → Expr
 ofNumbers o x y = binary o (n x) (n y)
 
+-- of two truth words
 abbrev pub ofTruths : Binary → Bool → Bool → Expr
 ofTruths o x y = binary o (truth x) (truth y)
 
@@ -54,6 +56,7 @@ less k = binary (Numbers Subtract) (name c) (n k)
 abbrev pub above : ℕ → Expr
 above k = binary (Compares Greater) (name c) (n k)
 
+-- `i` over an axis (l:h)
 abbrev pub over : Axis → ℕ → ℕ → Iterator
 over a l h = record { word = codes "i"; axis = a; range = span (pos l) (pos h) }
 
@@ -75,6 +78,7 @@ corner = slice false Y (slice false X (name c) (n 0)) (n 0)
 abbrev pub byPosition : Expr
 byPosition = slice false Y (slice false X (name c) (n 0)) (binary (Numbers Divide) corner (n 100))
 
+-- what comes of them
 pub record ConstructsByExample : Type 0 where
   -- operators
   pub minus : gives (unary Minus (name c)) (cells6 (negsuc 9) (negsuc 19) (negsuc 29) (negsuc 39) (negsuc 49) (negsuc 59))

@@ -8,7 +8,6 @@ use lib.Dec.{leb}
 use lib.Signed.{leZ}
 use Rattle.std.specs.declared.option.Option.{Option}
 use Rattle.std.specs.declared.option.Option.the-variants.{Some, None}
-use Rattle.coverage.specs.declared.axis.Axis.{Axis}
 use Rattle.coverage.specs.declared.range.Range.{Range}
 use Rattle.coverage.specs.declared.kind.Kind.{Kind}
 use Rattle.coverage.specs.declared.refusal.Refusal.{Refusal}
@@ -37,6 +36,7 @@ mostReads = 16000000
 
 -- ---- how refusals are told, and which comes first
 
+-- a refusal as the check tells it: its number and its place
 abbrev pub refuse : ℕ → ℕ → Refusal
 refuse number place = record { layer = Check; number = number; returned = One place }
 
@@ -44,6 +44,7 @@ refuse number place = record { layer = Check; number = number; returned = One pl
 abbrev pub unless : Bool → ℕ → ℕ → Option Refusal
 unless holds number place = cond holds None (Some (refuse number place))
 
+-- of two tests in turn, the refusal of the first that fails
 abbrev pub first : Option Refusal → Option Refusal → Option Refusal
 first None y = y
 first (Some r) y = Some r
@@ -58,6 +59,7 @@ limitsFault k promise place = first (unless (kindNarrow k) 9 place) (unless (leb
 abbrev pub domainsFit : Extents → Extents → Bool
 domainsFit d e = noAxes d || (noAxes e || sameDomain d e)
 
+-- a word that stands for something
 abbrev pub isBound : Option About → Bool
 isBound None = false
 isBound (Some a) = true
@@ -68,6 +70,7 @@ isBound (Some a) = true
 unfoldable pub nameFault : Option About → ℕ → Option Refusal
 nameFault a place = unless (isBound a) 5 place
 
+-- the same of a word without `$`: it is no iterator of a form around
 unfoldable pub iteratorFault : Option Range → ℕ → Option Refusal
 iteratorFault r place = unless (not (isNone r)) 5 place
 
@@ -75,6 +78,7 @@ iteratorFault r place = unless (not (isNone r)) 5 place
 unfoldable pub unaryFault : Unary → Kind → ℕ → ℕ → Option Refusal
 unaryFault o k promise place = first (unless (fitsAs (unaryExpects o) k) 7 place) (limitsFault (unaryKind o k) promise place)
 
+-- only division has a divisor
 abbrev pub isDivision : Binary → Bool
 isDivision (Numbers Plus) = false
 isDivision (Numbers Subtract) = false
@@ -148,6 +152,7 @@ formFault d place = unless (noAxes d) 7 place
 -- ---- the first refusal of an expression, with the iterators in use around and the place of its construct
 
 module _ (about : Described) where
+  -- each construct after its operands; the place is that of the construct around, until a tree says where its own begins
   abbrev pub faultOf : Ranges → ℕ → Expr → Option Refusal
   faultOf g place (at here e) = faultOf g here e
   faultOf g place (numeral n) = None

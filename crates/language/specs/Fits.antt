@@ -1,5 +1,5 @@
 -- Which kinds fit where: each rule expects numbers or truths.
-use mathlib.Core.Bool.{Bool, true, false, _&&_, _||_, not}
+use mathlib.Core.Bool.{Bool, _&&_, _||_, not}
 use Rattle.coverage.specs.declared.kind.Kind.{Kind}
 use Rattle.coverage.specs.Kinds.{isTruth}
 use Rattle.syntax.specs.declared.Unary.{Unary}
@@ -13,6 +13,7 @@ use Rattle.syntax.specs.declared.Fold.the-variants.{Sum, Least, Greatest, Every
 use Rattle.syntax.specs.declared.Reduce.{Reduce}
 use Rattle.syntax.specs.declared.Reduce.the-variants.{Whole, Count}
 
+-- what a rule may expect of an operand
 pub data Expected : Type 0 where
   aNumber : Expected
   aTruth : Expected
@@ -22,9 +23,11 @@ abbrev pub fitsAs : Expected → Kind → Bool
 fitsAs aNumber k = not (isTruth k)
 fitsAs aTruth k = isTruth k
 
+-- two operands of which the same is expected
 abbrev pub bothFitAs : Expected → Kind → Kind → Bool
 bothFitAs x j k = fitsAs x j && fitsAs x k
 
+-- minus and `abs` take numbers, `not` a truth
 abbrev pub unaryExpects : Unary → Expected
 unaryExpects Minus = aNumber
 unaryExpects Not = aTruth
@@ -34,6 +37,7 @@ unaryExpects Abs = aNumber
 abbrev pub alikeFit : Kind → Kind → Bool
 alikeFit j k = bothFitAs aNumber j k || bothFitAs aTruth j k
 
+-- comparisons, each by its sign
 abbrev pub comparisonFits : Comparison → Kind → Kind → Bool
 comparisonFits Equal j k = alikeFit j k
 comparisonFits Unequal j k = alikeFit j k
@@ -42,6 +46,7 @@ comparisonFits AtMost j k = bothFitAs aNumber j k
 comparisonFits Greater j k = bothFitAs aNumber j k
 comparisonFits AtLeast j k = bothFitAs aNumber j k
 
+-- `+ - * /` and `overlay` take numbers, `and or xor` truths
 abbrev pub operandsFit : Binary → Kind → Kind → Bool
 operandsFit (Numbers o) j k = bothFitAs aNumber j k
 operandsFit Overlay j k = bothFitAs aNumber j k

@@ -1,6 +1,6 @@
 -- Iterators: the domain that they go through, and the words that they bind.
 use mathlib.Core.List.{List, [], _∷_}
-use mathlib.Core.Bool.{Bool, true, false, cond, _&&_}
+use mathlib.Core.Bool.{Bool, true, cond, _&&_}
 use lib.IntN.{ℤ}
 use lib.Signed.{leZ}
 use Rattle.std.specs.shelf.Text.{sameBytes}
@@ -18,6 +18,7 @@ Ranges = Word → Option Range
 abbrev pub Places : Type 0
 Places = Word → ℤ
 
+-- around the outermost expression none is in use
 abbrev pub noRanges : Ranges
 noRanges w = None
 

@@ -8,5 +8,7 @@ pub mod Values
 pub mod Reads
 pub mod Queries
 pub mod Laws
+pub mod Limits
+pub mod Results
 pub mod Worked
 pub mod Constructs

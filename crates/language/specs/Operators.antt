@@ -19,9 +19,11 @@ abbrev pub bit : Bool → ℤ
 bit true = pos 1
 bit false = pos 0
 
+-- false, or the number 0
 abbrev pub isZero : ℤ → Bool
 isZero v = sameZ v (pos 0)
 
+-- true: any value but 0
 abbrev pub isTrue : ℤ → Bool
 isTrue v = not (isZero v)
 
@@ -29,6 +31,7 @@ isTrue v = not (isZero v)
 unfoldable pub quotient : ℤ → ℤ → ℤ
 quotient x y = quotZ x y
 
+-- `+ - * /`
 abbrev pub arithmetic : Arithmetic → ℤ → ℤ → ℤ
 arithmetic Plus x y = x +ℤ y
 arithmetic Subtract x y = x -ℤ y
@@ -39,6 +42,7 @@ arithmetic Divide x y = quotient x y
 abbrev pub overlaid : ℤ → ℤ → ℤ
 overlaid x y = cond (isZero x) y x
 
+-- `= != < <= > >=`
 abbrev pub compares : Comparison → ℤ → ℤ → Bool
 compares Equal x y = sameZ x y
 compares Unequal x y = not (sameZ x y)
@@ -47,16 +51,19 @@ compares AtMost x y = leZ x y
 compares Greater x y = ltZ y x
 compares AtLeast x y = leZ y x
 
+-- `and or xor`
 abbrev pub connects : Logic → Bool → Bool → Bool
 connects And x y = x && y
 connects Or x y = x || y
 connects Xor x y = cond x (not y) y
 
+-- prefixes and `abs`: the opposite, the other truth, the magnitude
 abbrev pub unaryValue : Unary → ℤ → ℤ
 unaryValue Minus x = negℤ x
 unaryValue Not x = bit (isZero x)
 unaryValue Abs x = pos (natAbs x)
 
+-- every operator between two operands
 abbrev pub binaryValue : Binary → ℤ → ℤ → ℤ
 binaryValue (Numbers o) x y = arithmetic o x y
 binaryValue Overlay x y = overlaid x y

@@ -12,7 +12,7 @@ use Rattle.std.specs.declared.result.Result.the-variants.{Ok, Err}
 use Rattle.coverage.specs.declared.kind.Kind.{Kind}
 use Rattle.coverage.specs.declared.refusal.Refusal.{Refusal}
 use Rattle.coverage.specs.Axes.{Extents, Coordinates, origin, cells, pointAt}
-use Rattle.syntax.specs.Tree.{Word, Expr, Binding, Query}
+use Rattle.syntax.specs.Tree.{Word, Binding, Query}
 use Rattle.language.specs.Iterators.{Places, noRanges}
 use Rattle.language.specs.Typing.{About, Described, domainOf, kindOf, promiseOf}
 use Rattle.language.specs.Faults.{mostReads, first, unless, isBound, faultOf}
@@ -26,10 +26,12 @@ abbrev pub standsFor : List Binding → Word → Option Word
 standsFor [] w = None
 standsFor (b ∷ rest) w = cond (sameBytes (b .word) w) (Some (b .coverage)) (standsFor rest w)
 
+-- the description of what a `$` word stands for, if it stands for anything
 abbrev pub describedAs : Described → Option Word → Option About
 describedAs find None = None
 describedAs find (Some n) = find n
 
+-- the cell of what a `$` word stands for
 abbrev pub lookedAt : Looks → Option Word → Coordinates → Option ℤ
 lookedAt look None p = None
 lookedAt look (Some n) p = look n p
@@ -42,6 +44,7 @@ bindAbout bs find w = describedAs find (standsFor bs w)
 abbrev pub bindLooks : List Binding → Looks → Looks
 bindLooks bs look w p = lookedAt look (standsFor bs w) p
 
+-- whether a binding has a `$` word
 abbrev pub boundBy : List Binding → Word → Bool
 boundBy [] w = false
 boundBy (b ∷ rest) w = cond (sameBytes (b .word) w) true (boundBy rest w)
@@ -58,6 +61,7 @@ bindingsFault find earlier (b ∷ rest) = first (bindingFault find earlier b) (b
 
 -- ---- the check
 
+-- the domain of the answer
 abbrev pub queryDomain : Described → Query → Extents
 queryDomain find q = domainOf (bindAbout (q .bindings) find) (q .body)
 
@@ -78,9 +82,11 @@ pub record Announced : Type 0 where
   pub kind : Kind
   pub promise : ℕ
 
+-- the domain, kind and promise of a query
 abbrev pub announced : Described → Query → Announced
 announced find q = record { extents = queryDomain find q; kind = kindOf (bindAbout (q .bindings) find) noRanges (q .body); promise = queryPromise find q }
 
+-- an announcement, unless there is a refusal
 abbrev pub unlessRefused : Option Refusal → Announced → Result Announced Refusal
 unlessRefused None t = Ok t
 unlessRefused (Some r) t = Err r
@@ -91,6 +97,7 @@ checked find q = unlessRefused (queryFault find q) (announced find q)
 
 -- ---- the run
 
+-- around the outermost expression no iterator stands anywhere that counts
 abbrev pub noPlaces : Places
 noPlaces w = pos 0
 
@@ -102,6 +109,7 @@ cellAt find look q n = valueAt (bindAbout (q .bindings) find) (bindLooks (q .bin
 abbrev pub cellReads : Described → Looks → Query → ℕ → ℕ
 cellReads find look q n = readsAt (bindAbout (q .bindings) find) (bindLooks (q .bindings) look) noPlaces (q .body) (pointAt (queryDomain find q) n origin)
 
+-- the first n, in order
 abbrev pub firstOf : (ℕ → Option ℤ) → ℕ → List (Option ℤ)
 firstOf f zero = []
 firstOf f (suc n) = firstOf f n ++ (f n ∷ [])

@@ -1,6 +1,5 @@
 -- How many looks at cells a run takes: every one by a `$` name counts, repeats included.
-use mathlib.Core.List.{List}
-use mathlib.Core.Bool.{Bool, true, false, cond}
+use mathlib.Core.Bool.{false, cond}
 use Prim.Native.Nat.{ℕ, zero, suc, _+_}
 use lib.IntN.{ℤ}
 use Rattle.std.specs.declared.option.Option.{Option}

@@ -1,8 +1,8 @@
 -- Spans and kinds: from those of the operands to that of the result.
-use mathlib.Core.Bool.{Bool, true, false, _&&_}
+use mathlib.Core.Bool.{Bool, _&&_}
 use Prim.Native.Nat.{ℕ}
 use lib.IntN.{ℤ, pos, _*ℤ_, negℤ}
-use lib.Signed.{leZ, _≤ℤ_}
+use lib.Signed.{leZ}
 use Rattle.std.specs.Numbers.{minZ, maxZ}
 use Rattle.coverage.specs.declared.range.Range.{Range}
 use Rattle.coverage.specs.declared.kind.Kind.{Kind}
@@ -20,6 +20,7 @@ use Rattle.language.specs.Operators.{arithmetic}
 
 -- ---- spans
 
+-- a span by its lowest and highest value
 abbrev pub span : ℤ → ℤ → Range
 span l h = record { lo = l; hi = h }
 
@@ -27,12 +28,15 @@ span l h = record { lo = l; hi = h }
 abbrev pub spanOf : Kind → Range
 spanOf k = span (low k) (high k)
 
+-- a number by its span
 abbrev pub number : ℤ → ℤ → Kind
 number l h = Number (span l h)
 
+-- the lowest of four
 abbrev pub lowest : ℤ → ℤ → ℤ → ℤ → ℤ
 lowest a b c d = minZ (minZ a b) (minZ c d)
 
+-- the highest of four
 abbrev pub highest : ℤ → ℤ → ℤ → ℤ → ℤ
 highest a b c d = maxZ (maxZ a b) (maxZ c d)
 
@@ -49,15 +53,19 @@ negated r = span (negℤ (r .hi)) (negℤ (r .lo))
 abbrev pub magnitudes : Range → Range
 magnitudes r = span (maxZ (pos 0) (maxZ (r .lo) (negℤ (r .hi)))) (maxZ (r .hi) (negℤ (r .lo)))
 
+-- the narrowest span that holds two others
 abbrev pub hull : Range → Range → Range
 hull a b = span (minZ (a .lo) (b .lo)) (maxZ (a .hi) (b .hi))
 
+-- the span of a sum of n values
 abbrev pub times : ℕ → Range → Range
 times n r = span (pos n *ℤ r .lo) (pos n *ℤ r .hi)
 
+-- a span widened to hold 0
 abbrev pub withZero : Range → Range
 withZero r = span (minZ (pos 0) (r .lo)) (maxZ (pos 0) (r .hi))
 
+-- whether 0 lies in a span
 abbrev pub holdsZero : Range → Bool
 holdsZero r = leZ (r .lo) (pos 0) && leZ (pos 0) (r .hi)
 

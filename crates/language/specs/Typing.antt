@@ -1,17 +1,15 @@
 -- What the check works out of each part of a query: its domain, its kind, and its promise for a cell.
 -- All three are told of every tree; that they are meant is what Faults decides.
-use mathlib.Core.List.{List}
-use mathlib.Core.Bool.{Bool, true, false, cond}
+use mathlib.Core.Bool.{cond}
 use Prim.Native.Nat.{ℕ, _+_, _*_}
 use lib.IntN.{pos}
 use Rattle.std.specs.declared.option.Option.{Option}
 use Rattle.std.specs.declared.option.Option.the-variants.{Some, None}
-use Rattle.coverage.specs.declared.axis.Axis.{Axis}
 use Rattle.coverage.specs.declared.range.Range.{Range}
 use Rattle.coverage.specs.declared.kind.Kind.{Kind}
 use Rattle.coverage.specs.declared.kind.Kind.the-variants.{Truth, Number}
 use Rattle.coverage.specs.Axes.{Extents, noExtents, setAxis, noAxes, cells}
-use Rattle.syntax.specs.Tree.{Word, Iterator, Expr, at, numeral, truth, name, iterator, unary, binary, reduce, trim, slice, condense, condenseWhere, form}
+use Rattle.syntax.specs.Tree.{Word, Expr, at, numeral, truth, name, iterator, unary, binary, reduce, trim, slice, condense, condenseWhere, form}
 use Rattle.language.specs.Spans.{number, unaryKind, binaryKind, foldKind, widened, reduceKind}
 use Rattle.language.specs.Iterators.{Ranges, iteratorExtents, bindRanges}
 
@@ -24,10 +22,12 @@ pub record About : Type 0 where
 abbrev pub Described : Type 0
 Described = Word → Option About
 
+-- the domain of what a word stands for
 abbrev pub namedExtents : Option About → Extents
 namedExtents None = noExtents
 namedExtents (Some a) = a .extents
 
+-- and its kind
 abbrev pub namedKind : Option About → Kind
 namedKind None = Truth
 namedKind (Some a) = a .kind

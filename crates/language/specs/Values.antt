@@ -1,6 +1,5 @@
 -- What the run gives: the value of one cell, or null.
-use mathlib.Core.List.{List}
-use mathlib.Core.Bool.{Bool, true, false, cond}
+use mathlib.Core.Bool.{true, false, cond}
 use Prim.Native.Nat.{ℕ, zero, suc}
 use lib.IntN.{ℤ, pos, _+ℤ_}
 use Rattle.std.specs.Numbers.{minZ, maxZ}
@@ -11,7 +10,7 @@ use Rattle.syntax.specs.declared.Fold.{Fold}
 use Rattle.syntax.specs.declared.Fold.the-variants.{Sum, Least, Greatest, Every, Any}
 use Rattle.syntax.specs.declared.Reduce.{Reduce}
 use Rattle.syntax.specs.declared.Reduce.the-variants.{Whole, Count}
-use Rattle.syntax.specs.Tree.{Word, Iterator, Expr, at, numeral, truth, name, iterator, unary, binary, reduce, trim, slice, condense, condenseWhere, form}
+use Rattle.syntax.specs.Tree.{Word, Expr, at, numeral, truth, name, iterator, unary, binary, reduce, trim, slice, condense, condenseWhere, form}
 use Rattle.language.specs.Operators.{bit, isTrue, unaryValue, binaryValue}
 use Rattle.language.specs.Iterators.{Places, iteratorExtents, bindPlaces}
 use Rattle.language.specs.Typing.{Described, domainOf}
@@ -22,6 +21,7 @@ Looks = Word → Coordinates → Option ℤ
 
 -- ---- null in operands
 
+-- null in the operand gives null
 abbrev pub ofOne : (ℤ → ℤ) → Option ℤ → Option ℤ
 ofOne f None = None
 ofOne f (Some x) = Some (f x)
@@ -45,6 +45,7 @@ pub data Pick : Type 0 where
   nothing : Pick
   value : ℤ → Pick
 
+-- a cell or point that is not left out
 abbrev pub picked : Option ℤ → Pick
 picked None = null
 picked (Some v) = value v
@@ -83,6 +84,7 @@ ofNothing Greatest = None
 ofNothing Every = Some (pos 1)
 ofNothing Any = Some (pos 0)
 
+-- what comes of all that has been gathered
 abbrev pub outcome : Fold → Pick → Option ℤ
 outcome o null = None
 outcome o nothing = ofNothing o

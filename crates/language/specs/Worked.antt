@@ -7,12 +7,10 @@ use Prim.Native.Nat.{ℕ, _+_}
 use lib.Chars.{codes}
 use lib.IntN.{ℤ, pos, negsuc, _+ℤ_, _*ℤ_}
 use Rattle.std.specs.shelf.Text.{sameBytes}
-use Rattle.std.specs.declared.option.Option.{Option}
 use Rattle.std.specs.declared.option.Option.the-variants.{Some, None}
 use Rattle.std.specs.declared.result.Result.{Result}
 use Rattle.std.specs.declared.result.Result.the-variants.{Ok, Err}
 use Rattle.coverage.specs.declared.axis.Axis.the-variants.{X, Y, T}
-use Rattle.coverage.specs.declared.range.Range.{Range}
 use Rattle.coverage.specs.declared.refusal.Refusal.{Refusal}
 use Rattle.coverage.specs.Axes.{Extents, noExtents, setAxis, sameZ}
 use Rattle.syntax.specs.declared.Unary.the-variants.{Minus}
@@ -30,11 +28,13 @@ use Rattle.language.specs.Queries.{Announced, checked, answer, reads}
 
 -- ---- the roof: x 0 to 2, y 0 to 1, values 0 to 100
 
+-- its domain
 abbrev pub roofExtents : Extents
 roofExtents X = Some (span (pos 0) (pos 2))
 roofExtents Y = Some (span (pos 0) (pos 1))
 roofExtents T = None
 
+-- the shelf has this coverage only
 abbrev pub roof : Described
 roof w = cond (sameBytes w (codes "roof")) (Some (record { extents = roofExtents; kind = number (pos 0) (pos 100) })) None
 
@@ -42,20 +42,25 @@ roof w = cond (sameBytes w (codes "roof")) (Some (record { extents = roofExtents
 abbrev pub strips : Bool → Bool → Looks
 strips a b w p = cond ((sameZ (p Y) (pos 0) && a) || (sameZ (p Y) (pos 1) && b)) (Some ((pos 10 +ℤ (pos 10 *ℤ p X)) +ℤ (pos 30 *ℤ p Y))) None
 
+-- both strips are there
 abbrev pub both : Looks
 both = strips true true
 
+-- only the second is
 abbrev pub strip1 : Looks
 strip1 = strips false true
 
 -- ---- queries
 
+-- the `$` word
 abbrev pub c : Word
 c = codes "c"
 
+-- `$c in (roof)`
 abbrev pub binding : Binding
 binding = record { word = c; wordPlace = 4; coverage = codes "roof"; coveragePlace = 11 }
 
+-- the query around E
 abbrev pub query : Expr → Query
 query e = record { bindings = binding ∷ []; body = e }
 
@@ -118,12 +123,15 @@ unknownCoverage = record { bindings = record { word = c; wordPlace = 4; coverage
 
 -- ---- what comes of them
 
+-- a number is announced
 abbrev pub accepts : Extents → ℤ → ℤ → ℕ → Result Announced Refusal
 accepts d l h n = Ok (record { extents = d; kind = number l h; promise = n })
 
+-- the check refuses, by a number at a place
 abbrev pub refuses : ℕ → ℕ → Result Announced Refusal
 refuses n place = Err (refuse n place)
 
+-- the cases
 pub record WorkedCases : Type 0 where
   -- span 1 to 101, promise 6; with strip 1 alone three nulls, then 41 51 61, with 6 reads
   pub plus-one : checked roof plusOne ≡ accepts roofExtents (pos 1) (pos 101) 6

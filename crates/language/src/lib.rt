@@ -1,7 +1,7 @@
 //! What a query means: its domain, kind, promise and first refusal, its cells and its reads. All of it
 //! is told in specs/, where a reader begins with Operators, Spans, Fits, Iterators, Typing and Faults
-//! (the check), goes on with Values and Reads (the run) and ends with Queries, Laws, Worked and
-//! Constructs.
+//! (the check), goes on with Values and Reads (the run) and ends with Queries, the laws (Laws, Limits,
+//! Results) and cases worked through (Worked, Constructs).
 //! There is no code of check or run here: each function's contract is a law of those definitions.
 pub mod laws;
 

@@ -12,7 +12,7 @@ use Rattle.std.proofs.shelf.Bits.{mul-le}
 use Rattle.std.specs.Numbers.{minZ, maxZ}
 use Rattle.language.specs.Operators.{quotient}
 use Rattle.language.specs.Spans.{span, lowest, highest, magnitudes, times}
-use Rattle.language.specs.Laws.{widest, mostCells}
+use Rattle.language.specs.Limits.{widest, mostCells}
 use Rattle.spans.specs.Pairs.{spanned, Bounded}
 
 -- the lowest and the highest of four, by six calls

@@ -3,7 +3,7 @@ use lib.IntN.{ℤ}
 use Rattle.coverage.specs.declared.range.Range.{Range}
 use Rattle.coverage.specs.declared.kind.Kind.the-variants.{Number}
 use Rattle.language.specs.Spans.{span}
-use Rattle.language.specs.Laws.{InBounds}
+use Rattle.language.specs.Limits.{InBounds}
 
 -- the span that a pair stands for
 abbrev pub spanned : ℤ × ℤ → Range

@@ -5,7 +5,7 @@ use crate::ends::lower;
 ghost use mathlib.Core.Path.{_≡_};
 ghost use Prim.Native.Nat.{_≤_};
 ghost use Rattle.language.specs.Spans.{negated, magnitudes, hull as hullOf, times as timesOf, withZero, holdsZero};
-ghost use Rattle.language.specs.Laws.{mostCells};
+ghost use Rattle.language.specs.Limits.{mostCells};
 ghost use Rattle.spans.specs.Pairs.{spanned, Bounded};
 
 /// The span of prefix `-`: l to h turns into -h to -l.
