@@ -1,11 +1,9 @@
 // The laws of queries. The functions do nothing and answer nothing: what each says is its contract.
 ghost use Rattle.language.specs.Constructs.{ConstructsByExample};
+ghost use Rattle.language.specs.Laws.{AnswersDependOnlyOnCellsInside, AnswersHoldTheirCells, CellsAndPointsNumberEachOther, KnownCellsNeverChange};
+ghost use Rattle.language.specs.Laws.{NothingNullReadsThePromise, QueriesSeeOnlyWhatTheyBind, ReadsStayWithinThePromise, ValuesLieInTheirSpan};
 ghost use Rattle.language.specs.Limits.{AcceptedKeepsTheLimits};
-ghost use Rattle.language.specs.Laws.{AnswersDependOnlyOnCellsInside, AnswersHoldTheirCells, CellsAndPointsNumberEachOther};
-ghost use Rattle.language.specs.Results.{FourPairsBoundEveryResult};
-ghost use Rattle.language.specs.Laws.{KnownCellsNeverChange, NothingNullReadsThePromise, QueriesSeeOnlyWhatTheyBind};
-ghost use Rattle.language.specs.Results.{QuotientsDropTheFraction};
-ghost use Rattle.language.specs.Laws.{ReadsStayWithinThePromise, ValuesLieInTheirSpan};
+ghost use Rattle.language.specs.Results.{FourPairsBoundEveryResult, QuotientsDropTheFraction};
 ghost use Rattle.language.specs.Worked.{WorkedCases};
 
 /// Every cell of an answer is null or a value of the announced kind, within the announced span.
