@@ -1,0 +1,14 @@
+pub mod Operators
+pub mod Spans
+pub mod Fits
+pub mod Iterators
+pub mod Typing
+pub mod Faults
+pub mod Values
+pub mod Reads
+pub mod Queries
+pub mod Laws
+pub mod Limits
+pub mod Results
+pub mod Worked
+pub mod Constructs
