@@ -29,6 +29,7 @@ pub record Onward (bs : List ℕ) (at : ℕ) (t : Tok) (s n : ℕ) : Type 0 wher
   pub after : at ≤ n
   pub within : n ≤ length bs
   pub forward : isEnd t ≡ false → at < n
+  pub begins : isEnd t ≡ false → s < n
   pub ends : isEnd t ≡ true → s ≡ length bs
 
 abbrev pub Forward : List ℕ → ℕ → Seen → Type 0
@@ -39,7 +40,7 @@ Some-token t = isEnd t ≡ false
 
 -- a token of at least one byte that is not the end
 goes : {bs : List ℕ} {at s n : ℕ} {t : Tok} → Some-token t → at ≤ s → s < n → n ≤ length bs → Onward bs at t s n
-goes e a l w = record { after = omega arith; within = w; forward = λ _. omega arith; ends = λ f. absurd (false≢true (sym e ∙ f)) }
+goes e a l w = record { after = omega arith; within = w; forward = λ _. omega arith; begins = λ _. l; ends = λ f. absurd (false≢true (sym e ∙ f)) }
 
 run-within : (k : Class) (bs : List ℕ) (s : ℕ) → s ≤ length bs → s + run k bs s ≤ length bs
 run-within k bs s h = omega (arith, leading-le-length (member k) (drop s bs), length-drop s bs)
@@ -104,7 +105,7 @@ mark-forward bs at s a lt =
 token-forward : (bs : List ℕ) (at s : ℕ) → at ≤ s → s ≤ length bs → Forward bs at (tokenAt bs s)
 token-forward bs at s a w =
     cond-both (leb (length bs) s) _ _ (Forward bs at)
-    (λ e. record { after = a; within = w; forward = λ f. absurd (false≢true (sym f)); ends = λ _. omega (arith, leb-true (length bs) s e) })
+    (λ e. record { after = a; within = w; forward = λ f. absurd (false≢true (sym f)); begins = λ f. absurd (false≢true (sym f)); ends = λ _. omega (arith, leb-true (length bs) s e) })
     (λ e.
         let lt : s < length bs = leb-false (length bs) s e in
         cond-both (letter (getD bs s 0)) _ _ (Forward bs at) (λ l. word-forward bs at s a lt l)
@@ -140,6 +141,7 @@ peeked bs at r h e =
       after = f .after;
       within = f .within;
       forward = f .forward;
+      begins = f .begins;
       ends = f .ends;
     }
   where

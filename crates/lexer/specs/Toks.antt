@@ -51,6 +51,7 @@ pub record Peeked (bs : List ℕ) (at : ℕ) (r : Lexed) : Type 0 where
   pub after : at ≤ r .next
   pub within : r .next ≤ length bs
   pub forward : isEnd (tok (r .token)) ≡ false → at < r .next
+  pub begins : isEnd (tok (r .token)) ≡ false → r .place < r .next
   pub ends : isEnd (tok (r .token)) ≡ true → r .place ≡ length bs
 
 -- the place of the first that is no token

@@ -105,11 +105,11 @@ iterationsOf (a ∷ b ∷ []) = iterations.Two (iteration a) (iteration b)
 iterationsOf (a ∷ b ∷ c ∷ is) = iterations.Three (iteration a) (iteration b) (iteration c)
 
 abbrev pub binding : tree.Binding → Binding
-binding b = record { place = b .wordPlace; word = part (b .wordPlace + 1) (length (b .word)); coverage = part (b .coveragePlace) (length (b .coverage)) }
+binding b = record { word = part (b .wordPlace + 1) (length (b .word)); coverage = part (b .coveragePlace) (length (b .coverage)) }
 
 -- a query has one to four bindings
 abbrev pub bindingsOf : List tree.Binding → Bindings
-bindingsOf [] = bindings.One (record { place = 0; word = part 0 0; coverage = part 0 0 })
+bindingsOf [] = bindings.One (record { word = part 0 0; coverage = part 0 0 })
 bindingsOf (a ∷ []) = bindings.One (binding a)
 bindingsOf (a ∷ b ∷ []) = bindings.Two (binding a) (binding b)
 bindingsOf (a ∷ b ∷ c ∷ []) = bindings.Three (binding a) (binding b) (binding c)

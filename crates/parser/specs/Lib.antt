@@ -6,3 +6,5 @@ pub mod Machine
 pub mod Grammar
 pub mod Faults
 pub mod Tables
+pub mod Ranges
+pub mod Reads

@@ -172,7 +172,7 @@ pops act (argMinus g a q ∷ s) st t p =
     either (numberOf t) (λ n. moved (argNumeral g a (negℤ (pos n)) n p 10 ∷ subsets ∷ acts (prefix q unary.Minus) ∷ (levels ++ s)) st)
     (begins act t p st (acts (prefix q unary.Minus) ∷ (levels ++ s)))
 pops act (argNumeral g a v n q k ∷ s) st t p = cond (is Colon t) (moved (bound (upper (trims g a) v) ∷ drop k s) st) (pops act s (act (leaf q (number n)) st) t p)
-pops act (bound e ∷ s) st t p = cond (is Minus t) (moved (boundMinus e ∷ s) st) (given (numberOf t) (λ n. moved (follows e (pos n) s) st))
+pops act (bound e ∷ s) st t p = either (numberOf t) (λ n. moved (follows e (pos n) s) st) (when (is Minus t) (boundMinus e ∷ s) st)
 pops act (boundMinus e ∷ s) st t p = given (numberOf t) (λ n. moved (follows e (negℤ (pos n)) s) st)
 pops act (sign q ∷ s) st t p = given (foldOf t) (λ f. moved (iterating2 (condensing q f) s) st)
 pops act (iterator k h js ∷ s) st t p = given (wordOf t) (λ w. moved (iteratorAxis k h js w p ∷ s) st)

@@ -1,6 +1,6 @@
 -- The tree that a table of nodes stands for. A node's operands stand before it.
 use mathlib.Core.List.{List, [], _∷_, _++_}
-use Prim.Native.Nat.{ℕ, _+_}
+use Prim.Native.Nat.{ℕ, _+_, _-_}
 use lib.ListN.{getD, take, drop}
 use Rattle.syntax.specs.Tree.{Word, Iterator, Expr, Query}
 use Rattle.syntax.specs.Tree as tree
@@ -27,8 +27,9 @@ iteratorsOf bs (iterations.One a) = iteratorOf bs a ∷ []
 iteratorsOf bs (iterations.Two a b) = iteratorOf bs a ∷ iteratorOf bs b ∷ []
 iteratorsOf bs (iterations.Three a b c) = iteratorOf bs a ∷ iteratorOf bs b ∷ iteratorOf bs c ∷ []
 
+-- a `$` word is told at its `$`, the byte before the word
 abbrev pub boundOf : List ℕ → Binding → tree.Binding
-boundOf bs b = record { word = spelt bs (b .word); wordPlace = b .place; coverage = spelt bs (b .coverage); coveragePlace = b .coverage .place }
+boundOf bs b = record { word = spelt bs (b .word); wordPlace = b .word .place - 1; coverage = spelt bs (b .coverage); coveragePlace = b .coverage .place }
 
 abbrev pub allBound : List ℕ → Bindings → List tree.Binding
 allBound bs (bindings.One a) = boundOf bs a ∷ []

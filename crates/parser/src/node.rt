@@ -28,10 +28,9 @@ pub enum Iterations {
     Three(Iteration, Iteration, Iteration),
 }
 
-/// A binding: where the `$` stands, the word after it, and the name of the coverage.
+/// A binding: the word after the `$`, which stands just before it, and the name of the coverage.
 #[derive(Clone, Copy)]
 pub struct Binding {
-    pub place: usize,
     pub word: Part,
     pub coverage: Part,
 }

@@ -1,0 +1,3 @@
+pub mod See
+pub mod Takes
+pub mod Commas
