@@ -7,7 +7,9 @@ use lib.ListN.{length}
 use denote.Ref.{RefT}
 use Rattle.std.specs.declared.option.Option.{Option}
 use Rattle.std.specs.declared.option.Option.the-variants.{Some, None}
+use native.Mathlib.Omega.{arith}
 use Rattle.std.proofs.shelf.Tests.{false≢true}
+use Rattle.lexer.proofs.Apart.{same-symbol}
 use Rattle.lexer.specs.declared.symbol.Symbol.{Symbol}
 use Rattle.lexer.specs.Tokens.{Tok, tok, word, variable, numeral, symbol, bad, end}
 use Rattle.lexer.specs.Toks.{Placed, toks, consed, isEnd, Peeked}
@@ -32,12 +34,12 @@ pub see : {bs : List ℕ} {at : ℕ} {r : Lexed} → Peeked bs at r → (s : Lis
 see {bs} {at} {r} p s st =
     ap (verdict build (length bs) s st) (p .tokens) ∙ at-consed (length bs) s st (tok (r .token)) (r .place) (toks bs (r .next)) (isEnd (tok (r .token))) refl (p .ends)
 
--- the same where the variant is known
-pub arm : {bs : List ℕ} {at : ℕ} {r : Lexed} → Peeked bs at r → {u : Token} → r .token ≡ u → (s : List Item) (st : St) → on bs s st at ≡ Looked (length bs) s st (tok u) (r .place) (toks bs (r .next))
-arm {bs} {at} {r} p e s st = see p s st ∙ ap (λ t. Looked (length bs) s st (tok t) (r .place) (toks bs (r .next))) e
+-- the same where the token is known
+pub arm : {bs : List ℕ} {at : ℕ} {r : Lexed} → Peeked bs at r → {u : Tok} → tok (r .token) ≡ u → (s : List Item) (st : St) → on bs s st at ≡ Looked (length bs) s st u (r .place) (toks bs (r .next))
+arm {bs} {at} {r} p e s st = see p s st ∙ ap (λ t. Looked (length bs) s st t (r .place) (toks bs (r .next))) e
 
-pub beyond : {bs : List ℕ} {at : ℕ} {r : Lexed} → Peeked bs at r → {u : Token} → r .token ≡ u → isEnd (tok u) ≡ false → at < r .next
-beyond p e f = p .forward (ap (λ t. isEnd (tok t)) e ∙ f)
+pub beyond : {bs : List ℕ} {at : ℕ} {r : Lexed} → Peeked bs at r → {u : Tok} → tok (r .token) ≡ u → isEnd u ≡ false → at < r .next
+beyond p e f = p .forward (ap isEnd e ∙ f)
 
 -- a token on which the stack moves
 pub turn : {bs : List ℕ} {at : ℕ} {r : Lexed} → Peeked bs at r → isEnd (tok (r .token)) ≡ false → (s : List Item) (st : St) (s′ : List Item) (st′ : St) → pops build s st (tok (r .token)) (r .place) ≡ moved s′ st′ → on bs s st at ≡ on bs s′ st′ (r .next)
@@ -68,6 +70,12 @@ level act len s st s′ st′ (t ∷ ts) f g = ap (onward (λ a b. verdict act l
 pub done : {S : Type 0} (act : Action → S → S) (len : ℕ) (a : Action) (s : List Item) (st : S) (ts : List Placed) → verdict act len (acts a ∷ s) st ts ≡ verdict act len s (act a st) ts
 done act len a s st ts = level act len _ st s _ ts (λ _. refl) (λ _ _. refl)
 
+no-some : (n : ℕ) → _≡_ {A = Option ℕ} None (Some n) → ⊥
+no-some n e = let z : _≡_ {A = ℕ} 0 1 = cc in omega arith
+
+some-same : (m n : ℕ) → Some m ≡ Some n → m ≡ n
+some-same m n e = cc
+
 -- a symbol is not the end
 pub symbol-some : (s : Symbol) (t : Tok) → is s t ≡ true → isEnd t ≡ false
 symbol-some s (word w) e = refl
@@ -76,6 +84,24 @@ symbol-some s (numeral n) e = refl
 symbol-some s (symbol u) e = refl
 symbol-some s bad e = refl
 symbol-some s end e = absurd (false≢true e)
+
+-- ---- which token it is
+
+pub symbol-is : (s : Symbol) (t : Tok) → is s t ≡ true → t ≡ symbol s
+symbol-is s (word w) e = absurd (false≢true e)
+symbol-is s (variable w) e = absurd (false≢true e)
+symbol-is s (numeral n) e = absurd (false≢true e)
+symbol-is s (symbol u) e = ap symbol (same-symbol u s e)
+symbol-is s bad e = absurd (false≢true e)
+symbol-is s end e = absurd (false≢true e)
+
+pub number-is : (t : Tok) (n : ℕ) → numberOf t ≡ Some n → t ≡ numeral n
+number-is (word w) n e = absurd (no-some n e)
+number-is (variable w) n e = absurd (no-some n e)
+number-is (numeral m) n e = ap numeral (some-same m n e)
+number-is (symbol u) n e = absurd (no-some n e)
+number-is bad n e = absurd (no-some n e)
+number-is end n e = absurd (no-some n e)
 
 -- ---- tokens that are of no use
 

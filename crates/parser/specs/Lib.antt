@@ -7,4 +7,5 @@ pub mod Grammar
 pub mod Faults
 pub mod Tables
 pub mod Ranges
+pub mod Built
 pub mod Reads

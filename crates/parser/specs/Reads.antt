@@ -1,6 +1,6 @@
 -- What each part of the reader ensures: how far the stack and the state get by it.
 use mathlib.Core.Path.{_≡_}
-use mathlib.Core.Bool.{true}
+use mathlib.Core.Bool.{Bool, true}
 use mathlib.Core.List.{List, [], _∷_, _++_}
 use Prim.Native.Nat.{ℕ, _+_, _<_, _≤_}
 use lib.ListN.{length}
@@ -22,8 +22,12 @@ use Rattle.parser.specs.declared.node.Binding as node
 use Rattle.parser.specs.declared.node.Bindings.{Bindings}
 use Rattle.parser.specs.declared.ranges.Signed.{Signed}
 use Rattle.parser.specs.Ranges.{coordinateOf}
-use Rattle.parser.specs.Actions.{Placing, Val, val, St, part, build, slice, iteration, iterationsOf, binding, bindingsOf}
-use Rattle.parser.specs.Machine.{Item, Edge, upper, trims, Verdict, refused, verdict, must, bound, follows, arg, expr, acts, Head, iterator, iterators, bindings}
+use Rattle.parser.specs.declared.roles.Opening.{Opening}
+use Rattle.parser.specs.declared.node.Node.{Node}
+use Rattle.parser.specs.declared.build.Done.{Done}
+use Rattle.parser.specs.Built.{value}
+use Rattle.parser.specs.Actions.{Placing, Val, val, St, state, part, build, slice, iteration, iterationsOf, binding, bindingsOf}
+use Rattle.parser.specs.Machine.{Item, Edge, upper, trims, Verdict, refused, verdict, must, bound, follows, arg, expr, acts, Head, iterator, iterators, bindings, Moved, onward, opened}
 use Rattle.parser.specs.Machine as machine
 
 -- what comes of a stack and a state from a byte on
@@ -144,3 +148,37 @@ pub record AllBindings (bs : List ℕ) (at : ℕ) (r : Bindings) (next : ℕ) : 
 abbrev pub BindingsRead : List ℕ → ℕ → Result (Bindings × ℕ) ℕ → Type 0
 BindingsRead bs at (Ok r) = AllBindings bs at (r .0) (r .1)
 BindingsRead bs at (Err p) = (s : List Item) (st : St) → on bs (machine.binding 3 [] ∷ s) st at ≡ refused p
+
+-- ---- expressions
+
+-- the items x, with the values us on top, are read from at on, and leave the items y and the value of d.
+-- No node is without a byte of its own
+pub record Reads (x y : List Item) (us : List Val) (bs : List ℕ) (at n : ℕ) (was now : List Node) (d : Done) : Type 0 where
+  pub forward : at ≤ d .next
+  pub within : d .next ≤ length bs
+  pub few : d .count + at ≤ n + d .next
+  pub turns : (s : List Item) (vs : List Val) → on bs (x ++ s) (state (us ++ vs) n was) at ≡ on bs (y ++ s) (state (value d ∷ vs) (d .count) now) (d .next)
+
+-- they cannot be read: p is the place
+abbrev pub Fails : List Item → List Val → List ℕ → ℕ → ℕ → List Node → ℕ → Type 0
+Fails x us bs at n was p = (s : List Item) (vs : List Val) → on bs (x ++ s) (state (us ++ vs) n was) at ≡ refused p
+
+abbrev pub Parsed : List Item → List Val → List ℕ → ℕ → ℕ → List Node → List Node → Result Done ℕ → Type 0
+Parsed x us bs at n was now (Ok d) = Reads x [] us bs at n was now d
+Parsed x us bs at n was now (Err p) = Fails x us bs at n was p
+
+-- whether a range lies ahead, or else an expression
+abbrev pub Ahead : List ℕ → ℕ → Option (Signed × ℕ) → Type 0
+Ahead bs at (Some r) = (g : Bool) (a : Axis) → Passes (arg g a ∷ []) (bound (upper (trims g a) (coordinateOf (r .0))) ∷ []) bs at (r .1)
+Ahead bs at None = (g : Bool) (a : Axis) → Passes (arg g a ∷ []) (expr ∷ must Close ∷ acts (slice g a) ∷ []) bs at at
+
+-- what follows a symbol at p that begins an operand
+pub record Opens (o : Opening) (p : ℕ) (bs : List ℕ) (at n : ℕ) (was now : List Node) (d : Done) : Type 0 where
+  pub forward : at ≤ d .next
+  pub within : d .next ≤ length bs
+  pub few : d .count + at ≤ n + d .next + 1
+  pub turns : (s : List Item) (vs : List Val) → onward (λ s′ st′. on bs s′ st′ at) p (opened build o p (state vs n was) s) ≡ on bs s (state (value d ∷ vs) (d .count) now) (d .next)
+
+abbrev pub OpenedRead : Opening → ℕ → List ℕ → ℕ → ℕ → List Node → List Node → Result Done ℕ → Type 0
+OpenedRead o p bs at n was now (Ok d) = Opens o p bs at n was now d
+OpenedRead o p bs at n was now (Err q) = (s : List Item) (vs : List Val) → onward (λ s′ st′. on bs s′ st′ at) p (opened build o p (state vs n was) s) ≡ refused q

@@ -1,7 +1,7 @@
 -- What symbols are for: operators with their levels, what may begin an operand, and signs of condense forms.
 use mathlib.Core.Bool.{Bool, true, false, cond}
 use Prim.Native.Nat.{ℕ}
-use lib.Dec.{eqb}
+use lib.Dec.{eqb, ltb}
 use Rattle.syntax.specs.Tree.{Word}
 use Rattle.std.specs.declared.option.Option.{Option}
 use Rattle.std.specs.declared.option.Option.the-variants.{Some, None}
@@ -94,6 +94,11 @@ operatorOf (numeral n) = None
 operatorOf (tokens.symbol s) = operator s
 operatorOf bad = None
 operatorOf end = None
+
+-- an operator, if its level is at least n and below m
+abbrev pub between : ℕ → ℕ → Option Operator → Option Operator
+between n m (Some o) = cond (ltb (o .level) n) None (cond (ltb (o .level) m) (Some o) None)
+between n m None = None
 
 -- the operator of level n that a token is
 abbrev pub joinOf : ℕ → Tok → Option Binary
