@@ -1,0 +1,5 @@
+pub mod See
+pub mod Takes
+pub mod Commas
+pub mod Joins
+pub mod Climb

@@ -1,0 +1,11 @@
+pub mod Axes
+pub mod Roles
+pub mod Actions
+pub mod Yields
+pub mod Machine
+pub mod Grammar
+pub mod Faults
+pub mod Tables
+pub mod Ranges
+pub mod Built
+pub mod Reads
