@@ -1,0 +1,9 @@
+pub mod Edits
+pub mod Strips
+pub mod Shelves
+pub mod Steps
+pub mod Plans
+pub mod Points
+pub mod Answers
+pub mod Contents
+pub mod Lives

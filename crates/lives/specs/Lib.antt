@@ -1,0 +1,6 @@
+pub mod Texts
+pub mod Shelves
+pub mod Unit
+pub mod Calls
+pub mod Life
+pub mod Theorem

@@ -1,0 +1,8 @@
+//! What holds at every step of every life of a unit, told and proved of the definitions alone. A reader
+//! begins in specs/ with Texts, Shelves and Unit, goes on with Calls (one call and its answer) and Life
+//! (a list of calls), and ends with Theorem.
+pub mod cell;
+pub mod laws;
+
+pub use cell::Cell;
+pub use laws::every_life_keeps_its_promises;
