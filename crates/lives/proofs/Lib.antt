@@ -7,3 +7,4 @@ pub mod Points
 pub mod Answers
 pub mod Contents
 pub mod Lives
+pub mod Examples

@@ -4,3 +4,5 @@ pub mod Unit
 pub mod Calls
 pub mod Life
 pub mod Theorem
+pub mod Worked
+pub mod Example

@@ -1,5 +1,8 @@
-// The theorem of lives. The function does nothing and answers nothing: what it says is its contract.
+// The theorem of lives, and cases that show what it speaks of. The functions do nothing and answer nothing:
+// what each says is its contract.
+ghost use Rattle.lives.specs.Example.{SuchALifeIsLed};
 ghost use Rattle.lives.specs.Theorem.{EveryLifeKeepsItsPromises};
+ghost use Rattle.lives.specs.Worked.{WorkedCasesOnTheirTexts};
 
 /// From a unit just switched on over any lawful shelf, whatever calls are made: at every step the shelf is
 /// its first content with the accepted strips, plans hold what was last accepted into them, what stands is
@@ -7,4 +10,14 @@ ghost use Rattle.lives.specs.Theorem.{EveryLifeKeepsItsPromises};
 /// changes nothing.
 pub fn every_life_keeps_its_promises()
     ensures { λ r. ⌜ EveryLifeKeepsItsPromises ⌝ }
+{}
+
+/// The worked cases over a roof of two rows, from the bytes of their texts to cells, reads and refusals.
+pub fn worked_cases_come_out_on_their_texts()
+    ensures { λ r. ⌜ WorkedCasesOnTheirTexts ⌝ }
+{}
+
+/// A life of twelve calls, accepted and refused, over that roof.
+pub fn such_a_life_is_led()
+    ensures { λ r. ⌜ SuchALifeIsLed ⌝ }
 {}

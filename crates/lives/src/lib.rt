@@ -6,3 +6,5 @@ pub mod laws;
 
 pub use cell::Cell;
 pub use laws::every_life_keeps_its_promises;
+pub use laws::such_a_life_is_led;
+pub use laws::worked_cases_come_out_on_their_texts;
