@@ -8,7 +8,7 @@ use borrow.Author.Tests.{clash, eqb-true, eq-eqb}
 use lib.Dec.{eqb}
 use lib.IntN.{ℤ, pos}
 use lib.ListN.{length, getD}
-use Rattle.std.specs.Options.{mapped}
+use Rattle.std.specs.Options.{isSome, mapped}
 use Rattle.std.specs.Finite.{nth}
 use Rattle.std.proofs.shelf.Maps.{nth-past}
 use Rattle.std.specs.declared.option.Option.{Option}
@@ -19,7 +19,7 @@ use Rattle.coverage.specs.declared.axis.Axis.the-variants.{X}
 use Rattle.coverage.specs.declared.description.Description.{Description}
 use Rattle.coverage.specs.declared.refusal.Refusal.{Refusal}
 use Rattle.coverage.specs.Axes.{Coordinates, Extents, Inside, extents, insideB, stepOf}
-use Rattle.coverage.specs.Strips.{stripAt}
+use Rattle.coverage.specs.Strips.{stripAt, stripFirst}
 use Rattle.coverage.proofs.Points.{inside-test}
 use Rattle.shelf.specs.declared.fault.ShelfFault.{ShelfFault}
 use Rattle.shelf.specs.declared.fault.ShelfFault.the-variants.{Outside}
@@ -29,10 +29,10 @@ use Rattle.shelf.specs.Laws.{Lawful}
 use Rattle.lives.specs.Texts.{textSays}
 use Rattle.lives.specs.Unit.{State, SwitchedOn}
 use Rattle.lives.specs.Calls.{Call, strip, look, check, run, Step, retold}
-use Rattle.lives.specs.Life.{Life, begins, goesOn, stripIn}
+use Rattle.lives.specs.Life.{Life, begins, goesOn, stripIn, isRefused, refusedResult}
 use Rattle.lives.specs.Theorem.{FirstContentWithStrips, covered}
 use Rattle.lives.proofs.Edits.{none-some, edited-here, edited-there, edited-long}
-use Rattle.lives.proofs.Strips.{put-cell}
+use Rattle.lives.proofs.Strips.{put-cell, first-of}
 use Rattle.lives.proofs.Shelves.{strip-taken}
 use Rattle.lives.proofs.Steps.{ok-err, check-shelf, life-lawful}
 
@@ -171,3 +171,34 @@ first-content-with-strips first on past now l = record {
     go : (c : ℕ) (o : Option Coverage) → nth (first .shelf) c ≡ o → mapped (λ (k : Coverage). k .about) (nth (now .shelf) c) ≡ mapped (λ (k : Coverage). k .about) o
     go c None e = ap (mapped (λ (k : Coverage). k .about)) (past-end c e)
     go c (Some k) e = let w = now-at k c first on e l in ap (mapped (λ (k : Coverage). k .about)) (w .there) ∙ ap (λ (a : Description). Some a) (w .about)
+
+-- ---- a strip that was accepted is there
+
+taken-once : (first : State) → SwitchedOn first → (past : List Call) (now : State) → Life first past now → (c n : ℕ) (cs again : List ℤ) → stripIn c n past ≡ Some cs → stripFault (now .shelf) c n again ≡ None → ⊥
+taken-once first on past now l c n cs again came free = go (nth (first .shelf) c) refl
+  where
+    t : (k : Coverage) × (nth (now .shelf) c ≡ Some k) × (stripRefused k c n again ≡ None)
+    t = strip-taken (nth (now .shelf) c) c n again free
+    go : (o : Option Coverage) → nth (first .shelf) c ≡ o → ⊥
+    go None e = none-some (sym (nth-past (now .shelf) c (let h = none-past (first .shelf) c e in let k = life-long l in let z : length (now .shelf) ≤ c = omega arith in z)) ∙ t .1)
+    go (Some k) e =
+        let w = now-at k c first on e l in
+        let law = life-lawful first on l .each c (t .0) (t .1) in
+        let j : w .coverage ≡ t .0 = let a = w .there in let b = t .1 in cc in
+        let d : domainOf (t .0) ≡ domainOf k = ap (λ (x : Coverage). domainOf x) (sym j) ∙ ap (λ (a : Description). extents (a .domain)) (w .about) in
+        let f = first-of (t .0) c n again law (t .2) in
+        let x = stripFirst (domainOf (t .0)) n in
+        let inside : Inside (domainOf k) x = subst (λ (y : Extents). Inside y x) d (f .0) in
+        let number : stripAt (domainOf k) x ≡ n = ap (λ (y : Extents). stripAt y x) (sym d) ∙ f .1 in
+        let known : cellAt (t .0) x ≡ Some (getD cs (stepOf (domainOf k X) (x X)) (pos 0)) =
+              ap (λ (y : Coverage). cellAt y x) (sym j) ∙ (w .cells x inside ∙ ap (λ (o : Option (List ℤ)). covered o (stepOf (domainOf k X) (x X)) (cellAt k x)) (ap (λ (i : ℕ). stripIn c i past) number ∙ came)) in
+        clash (sym (f .2) ∙ ap isSome known)
+
+accepted-none : (o : Option ShelfFault) → ((o ≡ None) → ⊥) → refusedResult (retold shelfRefusal (answerOf o)) ≡ true
+accepted-none None h = absurd (h refl)
+accepted-none (Some f) h = refl
+
+pub accepted-once : (first : State) → SwitchedOn first → (past : List Call) (now : State) → Life first past now → (c n : ℕ) (cs again : List ℤ) → stripIn c n past ≡ Some cs →
+    (r : Result (Unit {0}) Refusal) (then : State) → Step now (strip c n again r) then → isRefused (strip c n again r) ≡ true
+accepted-once first on past now l c n cs again came r then h =
+    ap (λ (x : Result (Unit {0}) Refusal). refusedResult x) (h .0) ∙ accepted-none (stripFault (now .shelf) c n again) (taken-once first on past now l c n cs again came)

@@ -14,12 +14,12 @@ use Rattle.language.specs.Queries.{Announced}
 use Rattle.lives.specs.Unit.{Standing, State, SwitchedOn, standing, cellsOf}
 use Rattle.lives.specs.Calls.{Areas, Answered, AreasAfter, Call, run, Step, answered, entry, runSays}
 use Rattle.lives.specs.Life.{Life, Checked, Stands, lastCheck}
-use Rattle.lives.specs.Theorem.{HoldsItsText, PlanHolds, RightlyAnswered, LongEnough, entryAt, KeepsItsPromises, EveryLifeKeepsItsPromises}
+use Rattle.lives.specs.Theorem.{HoldsItsText, PlanHolds, RightlyAnswered, LongEnough, entryAt, AnsweredEarlier, EveryLifeKeepsItsPromises}
 use Rattle.lives.proofs.Edits.{none-some}
 use Rattle.lives.proofs.Shelves.{Grows, grows-on}
 use Rattle.lives.proofs.Steps.{step-grows, life-lawful, Since, since, last-step, refused-changes-nothing}
 use Rattle.lives.proofs.Plans.{plans-hold}
-use Rattle.lives.proofs.Contents.{first-content-with-strips}
+use Rattle.lives.proofs.Contents.{first-content-with-strips, accepted-once}
 use Rattle.lives.proofs.Answers.{right, run-accepted, Ran, run-was, stays-known}
 
 module _ (first : State) (on : SwitchedOn first) (past : List Call) (now : State) (life : Life first past now) where
@@ -43,61 +43,60 @@ module _ (first : State) (on : SwitchedOn first) (past : List Call) (now : State
       subst (λ (k : Answered). RightlyAnswered (now .shelf) c before k after) (sym is)
       (right (now .shelf) (life-lawful first on life) c (d .query) (d .the-text-says-it) (d .accepted-for-this-shelf) before after (long .answer) w)
 
-  standing-answered : (p : ℕ) (c : Checked) → Stands p c past →
-      (before after : Areas) (r : Result Answered Refusal) (then : State) → Step now (run p before r after) then → LongEnough c before →
-      (n : Answered) × (r ≡ Ok n) × RightlyAnswered (now .shelf) c before n after
-  standing-answered p c st before after r then h long =
-      let d = holds p c st in
-      let n = answered (now .shelf) (record { query = d .query; announced = c .announced }) in
-      let is : r ≡ Ok n = h .0 ∙ accepted p c before d long in
-      (n, is, rightly p c before after n d long refl (subst (λ (x : Result Answered Refusal). AreasAfter (now .shelf) (standing now p) before x after) is (h .1)))
+  module _ (p : ℕ) (before after : Areas) (r : Result Answered Refusal) (then : State) (h : Step now (run p before r after) then) where
+    standing-answered : (c : Checked) → Stands p c past → LongEnough c before → (n : Answered) × (r ≡ Ok n) × RightlyAnswered (now .shelf) c before n after
+    standing-answered c st long =
+        let d = holds p c st in
+        let n = answered (now .shelf) (record { query = d .query; announced = c .announced }) in
+        let is : r ≡ Ok n = h .0 ∙ accepted p c before d long in
+        (n, is, rightly p c before after n d long refl (subst (λ (x : Result Answered Refusal). AreasAfter (now .shelf) (standing now p) before x after) is (h .1)))
 
-  had-standing : (p : ℕ) (before after : Areas) (n : Answered) (then : State) → Step now (run p before (Ok n) after) then →
-      (c : Checked) × Stands p c past × LongEnough c before × RightlyAnswered (now .shelf) c before n after
-  had-standing p before after n then h = go (lastCheck p past) refl (plans-hold first on past now life p)
-    where
-      w : Ran (now .shelf) (standing now p) before n
-      w = run-was (now .shelf) p (standing now p) before n (h .0)
-      go : (o : Option Checked) → lastCheck p past ≡ o → PlanHolds now p o → (c : Checked) × Stands p c past × LongEnough c before × RightlyAnswered (now .shelf) c before n after
-      go None e d = none-some (sym d ∙ w .there)
-      go (Some c) e d =
-          let q : Standing = record { query = d .query; announced = c .announced } in
-          let same : w .query ≡ q = let a = w .there in let b = d .stands-in-the-plan in cc in
-          let long : LongEnough c before = record { work = w .work; answer = subst (λ (x : Standing). cellsOf x ≤ length (before .answer)) same (w .room) } in
-          (c, e, long, rightly p c before after n d long (w .told ∙ ap (answered (now .shelf)) same) (h .1))
+    had-standing : (n : Answered) → r ≡ Ok n → (c : Checked) × Stands p c past × LongEnough c before × RightlyAnswered (now .shelf) c before n after
+    had-standing n is = go (lastCheck p past) refl (plans-hold first on past now life p)
+      where
+        w : Ran (now .shelf) (standing now p) before n
+        w = run-was (now .shelf) p (standing now p) before n (sym is ∙ h .0)
+        go : (o : Option Checked) → lastCheck p past ≡ o → PlanHolds now p o → (c : Checked) × Stands p c past × LongEnough c before × RightlyAnswered (now .shelf) c before n after
+        go None e d = none-some (sym d ∙ w .there)
+        go (Some c) e d =
+            let q : Standing = record { query = d .query; announced = c .announced } in
+            let same : w .query ≡ q = let a = w .there in let b = d .stands-in-the-plan in cc in
+            let long : LongEnough c before = record { work = w .work; answer = subst (λ (x : Standing). cellsOf x ≤ length (before .answer)) same (w .room) } in
+            (c, e, long, rightly p c before after n d long (w .told ∙ ap (answered (now .shelf)) same) (subst (λ (x : Result Answered Refusal). AreasAfter (now .shelf) (standing now p) before x after) is (h .1)))
 
--- the right answer of an accepted run, to the text that stands
-run-right : (first : State) → SwitchedOn first → (past : List Call) (now : State) → Life first past now → (p : ℕ) (before after : Areas) (n : Answered) (then : State) → Step now (run p before (Ok n) after) then →
-    (c : Checked) → Stands p c past → RightlyAnswered (now .shelf) c before n after
-run-right first on past now life p before after n then h c st =
-    let a = had-standing first on past now life p before after n then h in
-    let same : a .0 ≡ c = let x = a .1 in let y = st in cc in
-    subst (λ (k : Checked). RightlyAnswered (now .shelf) k before n after) same (a .3)
+    -- to the text that stands
+    right-to : (n : Answered) → r ≡ Ok n → (c : Checked) → Stands p c past → RightlyAnswered (now .shelf) c before n after
+    right-to n is c st =
+        let a = had-standing n is in
+        let same : a .0 ≡ c = let x = a .1 in let y = st in cc in
+        subst (λ (k : Checked). RightlyAnswered (now .shelf) k before n after) same (a .3)
 
 never-changes : (first : State) → SwitchedOn first → (past : List Call) (now : State) → Life first past now →
-    (newer older : List Call) (p₁ : ℕ) (before₁ after₁ : Areas) (n₁ : Answered) → past ≡ newer ++ (run p₁ before₁ (Ok n₁) after₁ ∷ older) →
-    (p : ℕ) (before after : Areas) (n : Answered) (then : State) → Step now (run p before (Ok n) after) then →
-    (c₁ c : Checked) → Stands p₁ c₁ older → Stands p c past → c₁ .text ≡ c .text →
-    (x : Coordinates) (v : ℤ) → Inside (c₁ .announced .extents) x → entryAt (c₁ .announced .extents) after₁ x ≡ Some (entry (Some v)) →
+    (p : ℕ) (before after : Areas) (r : Result Answered Refusal) (then : State) → Step now (run p before r after) then →
+    (n : Answered) → r ≡ Ok n → (c : Checked) → Stands p c past → (x : Coordinates) (v : ℤ) → AnsweredEarlier past (c .text) x v →
     Inside (c .announced .extents) x × (entryAt (c .announced .extents) after x ≡ Some (entry (Some v)))
-never-changes first on past now life newer older p₁ before₁ after₁ n₁ split p before after n then h c₁ c st₁ st texts x v inside is =
-    let one = run p₁ before₁ (Ok n₁) after₁ in
-    let b = since first on newer (one ∷ older) now (subst (λ (l : List Call). Life first l now) split life) in
-    let a = last-step first on one older (b .then) (b .life) in
+never-changes first on past now life p before after r then h n is c st x v e =
+    let one = run (e .plan) (e .before) (Ok (e .told)) (e .after) in
+    let b = since first on (e .newer) (one ∷ e .older) now (subst (λ (l : List Call). Life first l now) (e .among-the-calls) life) in
+    let a = last-step first on one (e .older) (b .then) (b .life) in
     let t = a .0 in
     let law = life-lawful first on (a .1) in
+    let c₁ : Checked = record { text = c .text; announced = e .announced } in
     let grown : Grows (t .shelf) (now .shelf) = grows-on (t .shelf) (b .then .shelf) (now .shelf) (step-grows t (b .then) one (a .2) law) (b .grown) in
-    let old = run-right first on older t (a .1) p₁ before₁ after₁ n₁ (b .then) (a .2) c₁ st₁ in
-    let new = run-right first on past now life p before after n then h c st in
-    stays-known (t .shelf) (now .shelf) law grown c₁ c before₁ after₁ before after n₁ n old new texts x v inside is
+    let old = right-to first on (e .older) t (a .1) (e .plan) (e .before) (e .after) (Ok (e .told)) (b .then) (a .2) (e .told) refl c₁ (e .the-text-stood) in
+    let new = right-to first on past now life p before after r then h n is c st in
+    stays-known (t .shelf) (now .shelf) law grown c₁ c (e .before) (e .after) before after (e .told) n old new refl x v (e .inside) (e .value-there)
 
 pub every-life-keeps-its-promises : EveryLifeKeepsItsPromises
 every-life-keeps-its-promises first on past now life = record {
   shelf-lawful = life-lawful first on life;
   shelf-is-first-content-with-accepted-strips = first-content-with-strips first on past now life;
+  no-strip-is-accepted-twice = accepted-once first on past now life;
   plans-hold-what-was-last-accepted = plans-hold first on past now life;
-  standing-query-is-answered = standing-answered first on past now life;
-  accepted-run-had-a-standing-query = had-standing first on past now life;
-  known-cells-never-change = never-changes first on past now life;
+  each-run-keeps-its-promises = λ p before after r then h. record {
+    standing-query-is-answered = standing-answered first on past now life p before after r then h;
+    accepted-run-had-a-standing-query = had-standing first on past now life p before after r then h;
+    known-cells-never-change = never-changes first on past now life p before after r then h;
+  };
   refused-call-changes-nothing = λ call then h e. refused-changes-nothing now then call h e;
 }

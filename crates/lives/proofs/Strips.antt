@@ -119,6 +119,10 @@ module _ (k : Coverage) (c n : ℕ) (cs : List ℤ) (law : LawfulCoverage k) (fr
         ∙ sym (ap isSome (put-cell q (b .0))))));
   }
 
+  -- the first point of the strip: inside, in no other strip, and null before it
+  pub first-of : (Inside (domainOf k) (stripFirst (domainOf k) n)) × (stripAt (domainOf k) (stripFirst (domainOf k) n) ≡ n) × (isSome (cellAt k (stripFirst (domainOf k) n)) ≡ false)
+  first-of = (strip-first (domainOf k) (ordered-domain k law) n (fitting .below) .0, first-strip (domainOf k) (ordered-domain k law) n (fitting .below), absent)
+
   -- a point in the strip was null before it
   was-null : (p : Coordinates) → Inside (domainOf k) p → n ≡ stripAt (domainOf k) p → isSome (cellAt k p) ≡ false
   was-null p inside e =

@@ -26,7 +26,7 @@ use Rattle.lives.specs.declared.cell.Cell.{Cell}
 use Rattle.lives.specs.Texts.{textSays}
 use Rattle.lives.specs.Shelves.{describes, looks}
 use Rattle.lives.specs.Unit.{Standing, State, SwitchedOn, standing}
-use Rattle.lives.specs.Calls.{Areas, Answered, Call, run, Step, entry, workNeeded}
+use Rattle.lives.specs.Calls.{Areas, Answered, Call, strip, run, Step, entry, workNeeded}
 use Rattle.lives.specs.Life.{Life, Checked, Stands, lastCheck, stripIn, isRefused, AreasStay}
 
 -- ---- the shelf
@@ -93,29 +93,53 @@ pub record LongEnough (c : Checked) (areas : Areas) : Type 0 where
   pub work : workNeeded ≤ length (areas .work)
   pub answer : cells (c .announced .extents) ≤ length (areas .answer)
 
+-- an earlier run of a text, among these calls, was accepted and answered a value at a point
+pub record AnsweredEarlier (past : List Call) (text : List ℕ) (x : Coordinates) (v : ℤ) : Type 0 where
+  pub newer : List Call
+  pub older : List Call
+  pub plan : ℕ
+  pub before : Areas
+  pub after : Areas
+  pub told : Answered
+  pub among-the-calls : past ≡ newer ++ (run plan before (Ok told) after ∷ older)
+  pub announced : Announced
+  pub the-text-stood : Stands plan (record { text = text; announced = announced }) older
+  pub inside : Inside (announced .extents) x
+  pub value-there : entryAt (announced .extents) after x ≡ Some (entry (Some v))
+
+-- a run of a plan, after the calls of `past` and over the shelf as it is
+pub record RunKeepsItsPromises (past : List Call) (m : List Coverage) (p : ℕ) (before : Areas) (r : Result Answered Refusal) (after : Areas) : Type 0 where
+  -- a query that still stands, run with areas long enough, is accepted and rightly answered
+  pub standing-query-is-answered : (c : Checked) → Stands p c past → LongEnough c before → (n : Answered) × (r ≡ Ok n) × RightlyAnswered m c before n after
+  -- an accepted run had a query standing in its plan, and answered that
+  pub accepted-run-had-a-standing-query : (n : Answered) → r ≡ Ok n → (c : Checked) × Stands p c past × LongEnough c before × RightlyAnswered m c before n after
+  -- a cell answered with a value is answered with that value, at the same coordinates, in each later accepted
+  -- run of a text equal byte for byte, in whichever plan
+  pub known-cells-never-change : (n : Answered) → r ≡ Ok n → (c : Checked) → Stands p c past → (x : Coordinates) (v : ℤ) → AnsweredEarlier past (c .text) x v →
+      Inside (c .announced .extents) x × (entryAt (c .announced .extents) after x ≡ Some (entry (Some v)))
+
 -- ---- every step
 
 -- after the calls of `past`, which led from `first` to `now`
 pub record KeepsItsPromises (first : State) (past : List Call) (now : State) : Type 0 where
   pub shelf-lawful : Lawful (now .shelf)
   pub shelf-is-first-content-with-accepted-strips : FirstContentWithStrips (first .shelf) past (now .shelf)
+  pub no-strip-is-accepted-twice : (c n : ℕ) (cs again : List ℤ) → stripIn c n past ≡ Some cs →
+      (r : Result (Unit {0}) Refusal) (then : State) → Step now (strip c n again r) then → isRefused (strip c n again r) ≡ true
   pub plans-hold-what-was-last-accepted : (p : ℕ) → PlanHolds now p (lastCheck p past)
-  -- a query that still stands, run with areas long enough, is accepted and rightly answered
-  pub standing-query-is-answered : (p : ℕ) (c : Checked) → Stands p c past →
-      (before after : Areas) (r : Result Answered Refusal) (then : State) → Step now (run p before r after) then → LongEnough c before →
-      (n : Answered) × (r ≡ Ok n) × RightlyAnswered (now .shelf) c before n after
-  -- an accepted run had a query standing in its plan, and answered that
-  pub accepted-run-had-a-standing-query : (p : ℕ) (before after : Areas) (n : Answered) (then : State) → Step now (run p before (Ok n) after) then →
-      (c : Checked) × Stands p c past × LongEnough c before × RightlyAnswered (now .shelf) c before n after
-  -- a cell answered with a value is answered with that value, at the same coordinates, in each later accepted
-  -- run of a text equal byte for byte, in whichever plan
-  pub known-cells-never-change : (newer older : List Call) (p₁ : ℕ) (before₁ after₁ : Areas) (n₁ : Answered) → past ≡ newer ++ (run p₁ before₁ (Ok n₁) after₁ ∷ older) →
-      (p : ℕ) (before after : Areas) (n : Answered) (then : State) → Step now (run p before (Ok n) after) then →
-      (c₁ c : Checked) → Stands p₁ c₁ older → Stands p c past → c₁ .text ≡ c .text →
-      (x : Coordinates) (v : ℤ) → Inside (c₁ .announced .extents) x → entryAt (c₁ .announced .extents) after₁ x ≡ Some (entry (Some v)) →
-      Inside (c .announced .extents) x × (entryAt (c .announced .extents) after x ≡ Some (entry (Some v)))
+  pub each-run-keeps-its-promises : (p : ℕ) (before after : Areas) (r : Result Answered Refusal) (then : State) → Step now (run p before r after) then →
+      RunKeepsItsPromises past (now .shelf) p before r after
   -- a refused call leaves shelf, plans and areas as they were
   pub refused-call-changes-nothing : (call : Call) (then : State) → Step now call then → isRefused call ≡ true → (then ≡ now) × AreasStay call
 
+-- every life from here
+abbrev pub EveryLifeFrom : State → Type 0
+EveryLifeFrom first = (past : List Call) (now : State) → Life first past now → KeepsItsPromises first past now
+
+-- the theorem: from every unit just switched on
 abbrev pub EveryLifeKeepsItsPromises : Type 0
-EveryLifeKeepsItsPromises = (first : State) → SwitchedOn first → (past : List Call) (now : State) → Life first past now → KeepsItsPromises first past now
+EveryLifeKeepsItsPromises = (first : State) → SwitchedOn first → EveryLifeFrom first
+
+-- every life that led here, for this very run
+abbrev pub EveryLifeUpTo : State → ℕ → Areas → Result Answered Refusal → Areas → Type 0
+EveryLifeUpTo now p before r after = (first : State) → SwitchedOn first → (past : List Call) → Life first past now → RunKeepsItsPromises past (now .shelf) p before r after
