@@ -32,7 +32,8 @@ use Rattle.lives.specs.declared.cell.Cell.{Cell}
 use Rattle.lives.specs.Texts.{textSays}
 use Rattle.lives.specs.Shelves.{describes, looks}
 use Rattle.lives.specs.Unit.{Standing, cellsOf, tooShort}
-use Rattle.lives.specs.Calls.{Areas, Answered, Written, answered, entry, runSays, workNeeded}
+use Rattle.lives.specs.Entries.{entry}
+use Rattle.lives.specs.Calls.{Areas, Answered, Written, answered, runSays, workNeeded}
 use Rattle.lives.specs.Life.{Checked}
 use Rattle.lives.specs.Theorem.{RightlyAnswered, LongEnough, entryAt, valueFrom}
 use Rattle.lives.proofs.Points.{point-agrees}

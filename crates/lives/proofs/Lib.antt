@@ -8,3 +8,4 @@ pub mod Answers
 pub mod Contents
 pub mod Lives
 pub mod Examples
+pub mod OneAnswer

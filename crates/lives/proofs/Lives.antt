@@ -12,7 +12,8 @@ use Rattle.coverage.specs.declared.refusal.Refusal.{Refusal}
 use Rattle.coverage.specs.Axes.{Coordinates, Inside, cells}
 use Rattle.language.specs.Queries.{Announced}
 use Rattle.lives.specs.Unit.{Standing, State, SwitchedOn, standing, cellsOf}
-use Rattle.lives.specs.Calls.{Areas, Answered, AreasAfter, Call, run, Step, answered, entry, runSays}
+use Rattle.lives.specs.Entries.{entry}
+use Rattle.lives.specs.Calls.{Areas, Answered, AreasAfter, Call, run, Step, answered, runSays}
 use Rattle.lives.specs.Life.{Life, Checked, Stands, lastCheck}
 use Rattle.lives.specs.Theorem.{HoldsItsText, PlanHolds, RightlyAnswered, LongEnough, entryAt, AnsweredEarlier, EveryLifeKeepsItsPromises}
 use Rattle.lives.proofs.Edits.{none-some}

@@ -1,10 +1,10 @@
 -- The four calls of a unit, each with its answer: what is answered, and what the unit is afterwards.
 use mathlib.Core.Path.{_≡_}
 use mathlib.Core.List.{List, _++_, map}
-use mathlib.Core.Bool.{Bool, true, false, cond}
+use mathlib.Core.Bool.{cond}
 use Prim.Native.Nat.{ℕ}
 use lib.Dec.{eqb, ltb}
-use lib.IntN.{ℤ, pos}
+use lib.IntN.{ℤ}
 use lib.ListN.{length, drop}
 use Rattle.std.specs.declared.option.Option.{Option}
 use Rattle.std.specs.declared.option.Option.the-variants.{Some, None}
@@ -20,6 +20,7 @@ use Rattle.parser.specs.declared.fault.TextFault.{TextFault}
 use Rattle.parser.specs.Faults.{refusalOf}
 use Rattle.language.specs.Queries.{Announced, checked, answer, reads}
 use Rattle.lives.specs.declared.cell.Cell.{Cell}
+use Rattle.lives.specs.Entries.{entry}
 use Rattle.lives.specs.Texts.{textSays}
 use Rattle.lives.specs.Shelves.{describes, looks}
 use Rattle.lives.specs.Unit.{Standing, State, isPlan, standing, cellsOf, noPlan, tooShort}
@@ -97,11 +98,6 @@ runSays m p (Some q) areas =
     cond (ltb (length (areas .work)) workNeeded) (Err (tooShort workNeeded)) (
     cond (ltb (length (areas .answer)) (cellsOf q)) (Err (tooShort (cellsOf q))) (
     Ok (answered m q)))
-
--- an entry of the answer area: null is 0 and unknown, a truth is 0 or 1
-abbrev pub entry : Option ℤ → Cell
-entry None = record { value = pos 0; known = false }
-entry (Some v) = record { value = v; known = true }
 
 -- the cells of the answer stand first, and later entries stay; of the work area only the length is told
 pub record Written (m : List Coverage) (q : Standing) (before after : Areas) : Type 0 where

@@ -15,7 +15,8 @@ use Rattle.coverage.specs.Axes.{extents, noExtents}
 use Rattle.shelf.specs.Faults.{shelfSays}
 use Rattle.lives.specs.declared.cell.Cell.{Cell}
 use Rattle.lives.specs.Unit.{State, SwitchedOn, noPlan, tooShort}
-use Rattle.lives.specs.Calls.{Areas, Call, strip, check, run, entry}
+use Rattle.lives.specs.Entries.{entry}
+use Rattle.lives.specs.Calls.{Areas, Call, strip, check, run}
 use Rattle.lives.specs.Life.{Life}
 use Rattle.lives.specs.Worked.{blank, strip0, strip1, roofDomain, around, accepts}
 

@@ -1,7 +1,9 @@
 pub mod Texts
 pub mod Shelves
 pub mod Unit
+pub mod Entries
 pub mod Calls
+pub mod Answers
 pub mod Life
 pub mod Theorem
 pub mod Worked

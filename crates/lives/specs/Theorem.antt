@@ -26,7 +26,8 @@ use Rattle.lives.specs.declared.cell.Cell.{Cell}
 use Rattle.lives.specs.Texts.{textSays}
 use Rattle.lives.specs.Shelves.{describes, looks}
 use Rattle.lives.specs.Unit.{Standing, State, SwitchedOn, standing}
-use Rattle.lives.specs.Calls.{Areas, Answered, Call, strip, run, Step, entry, workNeeded}
+use Rattle.lives.specs.Entries.{entry}
+use Rattle.lives.specs.Calls.{Areas, Answered, Call, strip, run, Step, workNeeded}
 use Rattle.lives.specs.Life.{Life, Checked, Stands, lastCheck, stripIn, isRefused, AreasStay}
 
 -- ---- the shelf

@@ -1,8 +1,14 @@
 // The theorem of lives, and cases that show what it speaks of. The functions do nothing and answer nothing:
 // what each says is its contract.
+ghost use Rattle.lives.specs.Answers.{EveryCallHasOneAnswer};
 ghost use Rattle.lives.specs.Example.{SuchALifeIsLed};
 ghost use Rattle.lives.specs.Theorem.{EveryLifeKeepsItsPromises};
 ghost use Rattle.lives.specs.Worked.{WorkedCasesOnTheirTexts};
+
+/// Whatever the state and the arguments, a call has an answer and a state after it, and only one of each.
+pub fn every_call_has_one_answer()
+    ensures { λ r. ⌜ EveryCallHasOneAnswer ⌝ }
+{}
 
 /// From a unit just switched on over any lawful shelf, whatever calls are made: at every step the shelf is
 /// its first content with the accepted strips, plans hold what was last accepted into them, what stands is
