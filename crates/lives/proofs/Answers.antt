@@ -13,18 +13,15 @@ use Rattle.std.specs.Options.{mapped}
 use Rattle.std.specs.Finite.{nth}
 use Rattle.std.specs.declared.option.Option.{Option}
 use Rattle.std.specs.declared.option.Option.the-variants.{Some, None}
-use Rattle.std.specs.declared.result.Result.{Result}
 use Rattle.std.specs.declared.result.Result.the-variants.{Ok, Err}
-use Rattle.coverage.specs.declared.refusal.Refusal.{Refusal}
-use Rattle.coverage.specs.Axes.{Agree, Coordinates, Extents, Inside, cells, numberAt, origin, pointAt}
+use Rattle.coverage.specs.Axes.{Coordinates, Extents, Inside, cells, numberAt, origin, pointAt}
 use Rattle.coverage.specs.Kinds.{Within}
 use Rattle.coverage.proofs.Numbers.{number-below}
 use Rattle.shelf.specs.Meaning.{Coverage}
 use Rattle.shelf.specs.Laws.{Lawful}
 use Rattle.syntax.specs.Tree.{Query}
 use Rattle.language.specs.Typing.{Described}
-use Rattle.language.specs.Values.{Looks}
-use Rattle.language.specs.Queries.{Announced, announced, answer, bindAbout, bindLooks, cellAt, checked, queryDomain, reads}
+use Rattle.language.specs.Queries.{Announced, announced, answer, bindAbout, bindLooks, cellAt, checked, queryDomain}
 use Rattle.language.proofs.Theorems.{query-accepted, values-lie-in-their-span, reads-stay-within-the-promise, known-cells-never-change, answers-depend-only-on-cells-inside}
 use Rattle.language.proofs.Shelves.{bind-sound, bind-alike}
 use Rattle.language.proofs.Answered.{answers-hold-their-cells}
@@ -35,7 +32,7 @@ use Rattle.lives.specs.Unit.{Standing, cellsOf, tooShort}
 use Rattle.lives.specs.Entries.{entry}
 use Rattle.lives.specs.Calls.{Areas, Answered, Written, answered, runSays, workNeeded}
 use Rattle.lives.specs.Life.{Checked}
-use Rattle.lives.specs.Theorem.{RightlyAnswered, LongEnough, entryAt, valueFrom}
+use Rattle.lives.specs.Theorem.{RightlyAnswered, entryAt, valueFrom}
 use Rattle.lives.proofs.Points.{point-agrees}
 use Rattle.lives.proofs.Shelves.{Grows, sound, looks-alike}
 use Rattle.lives.proofs.Steps.{ok-err}
@@ -67,9 +64,6 @@ module _ (m : List Coverage) (law : Lawful m) (q : Query) (a : Announced) (accep
   pub value-is : (p : Coordinates) → Inside (a .extents) p → valueFrom m q p ≡ cellAt (describes m) (looks m) q (numberAt (a .extents) p)
   value-is = subst (λ (d : Extents). (p : Coordinates) → Inside d p → valueFrom m q p ≡ cellAt (describes m) (looks m) q (numberAt d p)) domain-is number-is
 
-  abbrev list : List Cell
-  list = map entry (answer (describes m) (looks m) q)
-
   list-long : length (map entry (answer (describes m) (looks m) q)) ≡ cells (a .extents)
   list-long = length-map (answer (describes m) (looks m) q) entry ∙ (answers-hold-their-cells .as-many (describes m) (looks m) q ∙ ap cells domain-is)
 
@@ -81,9 +75,6 @@ module _ (m : List Coverage) (law : Lawful m) (q : Query) (a : Announced) (accep
 -- ---- what an accepted run writes
 
 module _ (m : List Coverage) (law : Lawful m) (c : Checked) (q : Query) (says : textSays (c .text) ≡ Ok q) (accepted : checked (describes m) q ≡ Ok (c .announced)) where
-  abbrev stand : Standing
-  stand = record { query = q; announced = c .announced }
-
   pub right : (before after : Areas) → cells (c .announced .extents) ≤ length (before .answer) → Written m (record { query = q; announced = c .announced }) before after →
       RightlyAnswered m c before (answered m (record { query = q; announced = c .announced })) after
   right before after room w =
@@ -163,7 +154,7 @@ module _ (m later : List Coverage) (law : Lawful m) (grown : Grows m later) (c�
       let was : valueFrom m (old .query) x ≡ Some v = entry-known (valueFrom m (old .query) x) v (sym (old .each-cell-as-defined x inside) ∙ is) in
       let cell : cellAt (describes m) (looks m) (old .query) k ≡ Some v = sym (value-is m law (old .query) (c .announced) now-accepted x i) ∙ was in
       let stays : cellAt (describes m) (looks later) (old .query) k ≡ Some v =
-            known-cells-never-change (describes m) (looks m) (looks later) (sound m law) (grown .known) (old .query) (c .announced) now-accepted k v cell in
+      known-cells-never-change (describes m) (looks m) (looks later) (sound m law) (grown .known) (old .query) (c .announced) now-accepted k v cell in
       let there : cellAt (describes later) (looks later) (new .query) k ≡ Some v =
-            ap (λ (d : Described). cellAt d (looks later) (new .query) k) (grown .described) ∙ (ap (λ (q : Query). cellAt (describes m) (looks later) q k) (sym same-query) ∙ stays) in
+      ap (λ (d : Described). cellAt d (looks later) (new .query) k) (grown .described) ∙ (ap (λ (q : Query). cellAt (describes m) (looks later) q k) (sym same-query) ∙ stays) in
       (i, new .each-cell-as-defined x i ∙ ap (λ (o : Option ℤ). Some (entry o)) (value-is later (grown .lawful) (new .query) (c .announced) (new .accepted-for-this-shelf) x i ∙ there))

@@ -1,5 +1,5 @@
 -- The shelf at each step is its first content with the accepted strips.
-use mathlib.Core.Path.{_≡_, refl, sym, ap, ap₂, subst, _∙_}
+use mathlib.Core.Path.{_≡_, refl, sym, ap, subst, _∙_}
 use mathlib.Core.List.{List, [], _∷_}
 use mathlib.Core.Bool.{Bool, true, false, cond, _&&_}
 use Prim.Native.Nat.{ℕ, zero, suc, _≤_}
@@ -24,7 +24,7 @@ use Rattle.coverage.proofs.Points.{inside-test}
 use Rattle.shelf.specs.declared.fault.ShelfFault.{ShelfFault}
 use Rattle.shelf.specs.declared.fault.ShelfFault.the-variants.{Outside}
 use Rattle.shelf.specs.Faults.{shelfRefusal}
-use Rattle.shelf.specs.Meaning.{Coverage, afterOf, answerOf, cellAt, domainOf, edited, lookAnswer, looked, putStrip, stripAfter, stripFault, stripRefused}
+use Rattle.shelf.specs.Meaning.{Coverage, afterOf, answerOf, cellAt, domainOf, edited, lookAnswer, looked, putStrip, stripFault, stripRefused}
 use Rattle.shelf.specs.Laws.{Lawful}
 use Rattle.lives.specs.Texts.{textSays}
 use Rattle.lives.specs.Unit.{State, SwitchedOn}
@@ -34,11 +34,7 @@ use Rattle.lives.specs.Theorem.{FirstContentWithStrips, covered}
 use Rattle.lives.proofs.Edits.{none-some, edited-here, edited-there, edited-long}
 use Rattle.lives.proofs.Strips.{put-cell, first-of}
 use Rattle.lives.proofs.Shelves.{strip-taken}
-use Rattle.lives.proofs.Steps.{ok-err, check-shelf, life-lawful}
-
--- the description of a coverage, if it is there
-abbrev aboutAt : List Coverage → ℕ → Option Description
-aboutAt m c = mapped (λ (k : Coverage). k .about) (nth m c)
+use Rattle.lives.proofs.Steps.{ok-err, check-shelf, life-lawful, strip-refused}
 
 -- coverage k as it is after these calls, where it has the number c
 record Now (k : Coverage) (c : ℕ) (past : List Call) (now : List Coverage) : Type 0 where
@@ -110,14 +106,10 @@ module _ (k : Coverage) (c : ℕ) where
       let e : u .shelf ≡ edited (s .shelf) d (λ i. putStrip i n cs) = ap (λ (x : State). x .shelf) (h .1) ∙ ap (λ (o : Option ShelfFault). afterOf o (s .shelf) d n cs) f in
       subst (λ (z : List Coverage). Now k c (strip d n cs (Ok v) ∷ past) z) (sym e) (put-now (s .shelf) law d n cs v (t .0) (t .1) (t .2) k c past w)
 
-  refused-now : (s : State) (d n : ℕ) (cs : List ℤ) (f : Refusal) (o : Option ShelfFault) → Err f ≡ retold shelfRefusal (answerOf o) → afterOf o (s .shelf) d n cs ≡ s .shelf
-  refused-now s d n cs f None e = ok-err (sym e)
-  refused-now s d n cs f (Some g) e = refl
-
   step-now : (s u : State) (call : Call) (past : List Call) → Lawful (s .shelf) → Step s call u → Now k c past (s .shelf) → Now k c (call ∷ past) (u .shelf)
   step-now s u (strip d n cs (Ok v)) past law h w = strip-now s u d n cs v past law h w
   step-now s u (strip d n cs (Err f)) past law h w =
-      same-now k c past (strip d n cs (Err f)) (s .shelf) (u .shelf) (λ n. refl) (ap (λ (x : State). x .shelf) (h .1) ∙ refused-now s d n cs f (stripFault (s .shelf) d n cs) (h .0)) w
+      same-now k c past (strip d n cs (Err f)) (s .shelf) (u .shelf) (λ n. refl) (ap (λ (x : State). x .shelf) (h .1) ∙ strip-refused s d n cs f (stripFault (s .shelf) d n cs) (h .0)) w
   step-now s u (look d p r) past law h w = same-now k c past (look d p r) (s .shelf) (u .shelf) (λ n. refl) (ap (λ (x : State). x .shelf) (h .1)) w
   step-now s u (check p text r) past law h w =
       same-now k c past (check p text r) (s .shelf) (u .shelf) (λ n. refl) (ap (λ (x : State). x .shelf) (h .1) ∙ check-shelf s p (textSays text) r) w
@@ -157,17 +149,18 @@ look-now now c p k there inside =
 
 pub first-content-with-strips : (first : State) → SwitchedOn first → (past : List Call) (now : State) → Life first past now → FirstContentWithStrips (first .shelf) past (now .shelf)
 first-content-with-strips first on past now l = record {
-    as-many-coverages = life-long l;
-    descriptions-stay = λ c. go c (nth (first .shelf) c) refl;
-    each-cell = λ c k there p inside.
-        let w = now-at k c first on there l in
-        let d : domainOf (w .coverage) ≡ domainOf k = ap (λ (a : Description). extents (a .domain)) (w .about) in
-        look-now (now .shelf) c p (w .coverage) (w .there) (ap (λ (e : Extents). insideB e p) d ∙ inside-test (domainOf k) p inside)
-        ∙ ap (λ (o : Option ℤ). Ok o) (w .cells p inside);
-  }
+  as-many-coverages = life-long l;
+  descriptions-stay = λ c. go c (nth (first .shelf) c) refl;
+  each-cell = λ c k there p inside.
+      let w = now-at k c first on there l in
+      let d : domainOf (w .coverage) ≡ domainOf k = ap (λ (a : Description). extents (a .domain)) (w .about) in
+      look-now (now .shelf) c p (w .coverage) (w .there) (ap (λ (e : Extents). insideB e p) d ∙ inside-test (domainOf k) p inside)
+      ∙ ap (λ (o : Option ℤ). Ok o) (w .cells p inside);
+}
   where
     past-end : (c : ℕ) → nth (first .shelf) c ≡ None → nth (now .shelf) c ≡ None
     past-end c e = nth-past (now .shelf) c (let h = none-past (first .shelf) c e in let k = life-long l in let z : length (now .shelf) ≤ c = omega arith in z)
+
     go : (c : ℕ) (o : Option Coverage) → nth (first .shelf) c ≡ o → mapped (λ (k : Coverage). k .about) (nth (now .shelf) c) ≡ mapped (λ (k : Coverage). k .about) o
     go c None e = ap (mapped (λ (k : Coverage). k .about)) (past-end c e)
     go c (Some k) e = let w = now-at k c first on e l in ap (mapped (λ (k : Coverage). k .about)) (w .there) ∙ ap (λ (a : Description). Some a) (w .about)
@@ -179,6 +172,7 @@ taken-once first on past now l c n cs again came free = go (nth (first .shelf) c
   where
     t : (k : Coverage) × (nth (now .shelf) c ≡ Some k) × (stripRefused k c n again ≡ None)
     t = strip-taken (nth (now .shelf) c) c n again free
+
     go : (o : Option Coverage) → nth (first .shelf) c ≡ o → ⊥
     go None e = none-some (sym (nth-past (now .shelf) c (let h = none-past (first .shelf) c e in let k = life-long l in let z : length (now .shelf) ≤ c = omega arith in z)) ∙ t .1)
     go (Some k) e =
@@ -191,7 +185,7 @@ taken-once first on past now l c n cs again came free = go (nth (first .shelf) c
         let inside : Inside (domainOf k) x = subst (λ (y : Extents). Inside y x) d (f .0) in
         let number : stripAt (domainOf k) x ≡ n = ap (λ (y : Extents). stripAt y x) (sym d) ∙ f .1 in
         let known : cellAt (t .0) x ≡ Some (getD cs (stepOf (domainOf k X) (x X)) (pos 0)) =
-              ap (λ (y : Coverage). cellAt y x) (sym j) ∙ (w .cells x inside ∙ ap (λ (o : Option (List ℤ)). covered o (stepOf (domainOf k X) (x X)) (cellAt k x)) (ap (λ (i : ℕ). stripIn c i past) number ∙ came)) in
+        ap (λ (y : Coverage). cellAt y x) (sym j) ∙ (w .cells x inside ∙ ap (λ (o : Option (List ℤ)). covered o (stepOf (domainOf k X) (x X)) (cellAt k x)) (ap (λ (i : ℕ). stripIn c i past) number ∙ came)) in
         clash (sym (f .2) ∙ ap isSome known)
 
 accepted-none : (o : Option ShelfFault) → ((o ≡ None) → ⊥) → refusedResult (retold shelfRefusal (answerOf o)) ≡ true

@@ -1,7 +1,5 @@
 -- The worked cases and the example life, by computing.
-use mathlib.Core.Path.{_≡_, refl}
-use mathlib.Core.List.{List}
-use Prim.Native.Nat.{ℕ}
+use mathlib.Core.Path.{refl}
 use lib.Chars.{codes}
 use lib.IntN.{pos}
 use Rattle.std.specs.declared.result.Result.the-variants.{Err}

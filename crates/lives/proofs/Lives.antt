@@ -1,16 +1,15 @@
 -- The theorem of lives.
 use mathlib.Core.Path.{_≡_, refl, sym, ap, subst, _∙_}
-use mathlib.Core.List.{List, [], _∷_, _++_}
+use mathlib.Core.List.{List, _∷_}
 use Prim.Native.Nat.{ℕ, _≤_}
 use lib.IntN.{ℤ}
 use lib.ListN.{length}
 use Rattle.std.specs.declared.option.Option.{Option}
 use Rattle.std.specs.declared.option.Option.the-variants.{Some, None}
 use Rattle.std.specs.declared.result.Result.{Result}
-use Rattle.std.specs.declared.result.Result.the-variants.{Ok, Err}
+use Rattle.std.specs.declared.result.Result.the-variants.{Ok}
 use Rattle.coverage.specs.declared.refusal.Refusal.{Refusal}
-use Rattle.coverage.specs.Axes.{Coordinates, Inside, cells}
-use Rattle.language.specs.Queries.{Announced}
+use Rattle.coverage.specs.Axes.{Coordinates, Inside}
 use Rattle.lives.specs.Unit.{Standing, State, SwitchedOn, standing, cellsOf}
 use Rattle.lives.specs.Entries.{entry}
 use Rattle.lives.specs.Calls.{Areas, Answered, AreasAfter, Call, run, Step, answered, runSays}
@@ -18,7 +17,7 @@ use Rattle.lives.specs.Life.{Life, Checked, Stands, lastCheck}
 use Rattle.lives.specs.Theorem.{HoldsItsText, PlanHolds, RightlyAnswered, LongEnough, entryAt, AnsweredEarlier, EveryLifeKeepsItsPromises}
 use Rattle.lives.proofs.Edits.{none-some}
 use Rattle.lives.proofs.Shelves.{Grows, grows-on}
-use Rattle.lives.proofs.Steps.{step-grows, life-lawful, Since, since, last-step, refused-changes-nothing}
+use Rattle.lives.proofs.Steps.{step-grows, life-lawful, since, last-step, refused-changes-nothing}
 use Rattle.lives.proofs.Plans.{plans-hold}
 use Rattle.lives.proofs.Contents.{first-content-with-strips, accepted-once}
 use Rattle.lives.proofs.Answers.{right, run-accepted, Ran, run-was, stays-known}
@@ -57,6 +56,7 @@ module _ (first : State) (on : SwitchedOn first) (past : List Call) (now : State
       where
         w : Ran (now .shelf) (standing now p) before n
         w = run-was (now .shelf) p (standing now p) before n (sym is ∙ h .0)
+
         go : (o : Option Checked) → lastCheck p past ≡ o → PlanHolds now p o → (c : Checked) × Stands p c past × LongEnough c before × RightlyAnswered (now .shelf) c before n after
         go None e d = none-some (sym d ∙ w .there)
         go (Some c) e d =

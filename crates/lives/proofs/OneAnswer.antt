@@ -11,7 +11,7 @@ use Rattle.shelf.specs.Meaning.{Coverage}
 use Rattle.language.specs.Queries.{answer}
 use Rattle.lives.specs.Texts.{textSays}
 use Rattle.lives.specs.Shelves.{describes, looks}
-use Rattle.lives.specs.Unit.{Standing, State, cellsOf, standing}
+use Rattle.lives.specs.Unit.{Standing, cellsOf, standing}
 use Rattle.lives.specs.Entries.{entry}
 use Rattle.lives.specs.Calls.{Areas, Answered, AreasAfter, afterCheck, afterStrip, checkSays, lookSays, runSays, stripSays}
 use Rattle.lives.specs.Answers.{EveryCallHasOneAnswer}
@@ -43,7 +43,8 @@ every-call-has-one-answer = record {
       let e = h .0 ∙ sym (k .0) in
       (e, h .1 ∙ (ap (afterCheck s p (textSays text)) e ∙ sym (k .1)));
   run-in-one-way = λ s u v p before after other r q h k.
-      let e = h .0 ∙ sym (k .0) in
-      ((e, h .2 ∙ sym (k .2)),
-       same-areas (s .shelf) (standing s p) before after other r (h .1) (subst (λ (x : Result Answered Refusal). AreasAfter (s .shelf) (standing s p) before x other) (sym e) (k .1)));
+      let e = h .0 ∙ sym (k .0) in (
+        (e, h .2 ∙ sym (k .2)),
+        same-areas (s .shelf) (standing s p) before after other r (h .1) (subst (λ (x : Result Answered Refusal). AreasAfter (s .shelf) (standing s p) before x other) (sym e) (k .1)),
+      );
 }

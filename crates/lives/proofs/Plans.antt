@@ -1,6 +1,6 @@
 -- A plan holds the query of the text that was last accepted into it.
 use mathlib.Core.Path.{_≡_, refl, sym, ap, subst, _∙_}
-use mathlib.Core.List.{List, [], _∷_}
+use mathlib.Core.List.{List, _∷_}
 use mathlib.Core.Bool.{Bool, true, false, cond}
 use Prim.Native.Nat.{ℕ}
 use borrow.Author.Tests.{eqb-true}
@@ -9,7 +9,6 @@ use Rattle.std.specs.declared.option.Option.{Option}
 use Rattle.std.specs.declared.option.Option.the-variants.{Some, None}
 use Rattle.std.specs.declared.result.Result.{Result}
 use Rattle.std.specs.declared.result.Result.the-variants.{Ok, Err}
-use Rattle.coverage.specs.declared.refusal.Refusal.{Refusal}
 use Rattle.coverage.specs.declared.refusal.Layer.the-variants as layer
 use Rattle.shelf.specs.Meaning.{Coverage}
 use Rattle.syntax.specs.Tree.{Query}
@@ -18,10 +17,10 @@ use Rattle.language.specs.Typing.{Described}
 use Rattle.language.specs.Queries.{Announced, checked}
 use Rattle.lives.specs.Texts.{textSays}
 use Rattle.lives.specs.Shelves.{describes}
-use Rattle.lives.specs.Unit.{Standing, State, SwitchedOn, isPlan, standing, noPlan}
+use Rattle.lives.specs.Unit.{Standing, State, SwitchedOn, isPlan, noPlan}
 use Rattle.lives.specs.Calls.{Call, strip, look, check, run, Step, announces, checkSays, filled, afterCheck}
 use Rattle.lives.specs.Life.{Life, begins, goesOn, Checked, lastCheck}
-use Rattle.lives.specs.Theorem.{HoldsItsText, PlanHolds}
+use Rattle.lives.specs.Theorem.{PlanHolds}
 use Rattle.lives.proofs.Steps.{ok-err, check-refused, step-grows, life-lawful}
 
 -- an accepted check: there is such a plan, the text says a query, and the query is announced so

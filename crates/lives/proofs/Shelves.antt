@@ -1,14 +1,13 @@
 -- Shelves as queries see them, and what a strip leaves of that.
-use mathlib.Core.Path.{_≡_, refl, sym, ap, ap₂, subst, fun-ext, _∙_}
+use mathlib.Core.Path.{_≡_, refl, sym, ap, subst, fun-ext, _∙_}
 use mathlib.Core.List.{List}
-use mathlib.Core.Bool.{Bool, true, false, cond, _&&_}
+use mathlib.Core.Bool.{Bool, true, false}
 use Prim.Native.Nat.{ℕ, _≤_}
 use native.Mathlib.Omega.{arith}
 use borrow.Author.Tests.{eqb-true, eq-eqb, clash}
 use lib.Dec.{eqb}
-use lib.IntN.{ℤ, pos, negsuc, negℤ}
-use lib.ListN.{length}
-use lib.Signed.{leZ, _≤ℤ_}
+use lib.IntN.{ℤ, pos, negsuc}
+use lib.Signed.{leZ}
 use Rattle.std.proofs.shelf.Signed.{ints}
 use Rattle.std.specs.Options.{mapped}
 use Rattle.std.specs.Finite.{nth}
@@ -24,13 +23,12 @@ use Rattle.coverage.proofs.Bools.{and-left, and-right}
 use Rattle.coverage.proofs.Bounds.{describable-by, few-cells}
 use Rattle.coverage.proofs.Points.{inside-test}
 use Rattle.shelf.specs.declared.fault.ShelfFault.{ShelfFault}
-use Rattle.shelf.specs.Meaning.{Coverage, afterOf, cellAt, domainOf, edited, faultAt, findAnswer, putStrip, settledOn, stripAfter, stripFault, stripRefused}
+use Rattle.shelf.specs.Meaning.{Coverage, afterOf, domainOf, edited, faultAt, findAnswer, putStrip, settledOn, stripAfter, stripFault, stripRefused}
 use Rattle.shelf.specs.Laws.{Lawful, LawfulCoverage}
 use Rattle.syntax.specs.Tree.{Word}
 use Rattle.language.specs.Typing.{About, Described}
-use Rattle.language.specs.Values.{Looks}
 use Rattle.language.specs.Laws.{SoundShelf, KnownCellsStay, CellsAlike}
-use Rattle.language.specs.Limits.{BoundedShelf, InBounds, mostCells, widest}
+use Rattle.language.specs.Limits.{BoundedShelf, InBounds, mostCells}
 use Rattle.lives.specs.Shelves.{numbered, named, aboutOf, describes, cellIn, looks}
 use Rattle.lives.proofs.Edits.{none-some, edited-here, edited-there, edited-long, edited-find}
 use Rattle.lives.proofs.Strips.{ordered-domain, put-lawful, put-keeps}
@@ -101,9 +99,6 @@ grows-on a b c g h = record {
 -- ---- an accepted strip
 
 module _ (m : List Coverage) (law : Lawful m) (c n : ℕ) (cs : List ℤ) (k : Coverage) (there : nth m c ≡ Some k) (free : stripRefused k c n cs ≡ None) where
-  abbrev after : List Coverage
-  after = edited m c (λ j. putStrip j n cs)
-
   each-after : (i : ℕ) (j : Coverage) → nth (edited m c (λ j. putStrip j n cs)) i ≡ Some j → LawfulCoverage j
   each-after i j e = go (eqb c i) refl
     where

@@ -1,7 +1,7 @@
 -- What one step does to the shelf, and what a refused one leaves.
 use mathlib.Core.Path.{_≡_, refl, sym, ap, subst, _∙_}
 use mathlib.Core.List.{List, [], _∷_, _++_}
-use mathlib.Core.Bool.{Bool, true, false, cond}
+use mathlib.Core.Bool.{true}
 use Prim.Native.Nat.{ℕ}
 use native.Mathlib.Omega.{arith}
 use borrow.Author.Tests.{clash}
@@ -13,14 +13,14 @@ use Rattle.std.specs.declared.result.Result.the-variants.{Ok, Err}
 use Rattle.coverage.specs.declared.refusal.Refusal.{Refusal}
 use Rattle.shelf.specs.declared.fault.ShelfFault.{ShelfFault}
 use Rattle.shelf.specs.Faults.{shelfRefusal}
-use Rattle.shelf.specs.Meaning.{Coverage, afterOf, answerOf, stripAfter, stripFault}
+use Rattle.shelf.specs.Meaning.{Coverage, afterOf, answerOf, stripFault}
 use Rattle.shelf.specs.Laws.{Lawful}
 use Rattle.syntax.specs.Tree.{Query}
 use Rattle.parser.specs.declared.fault.TextFault.{TextFault}
 use Rattle.language.specs.Queries.{Announced}
 use Rattle.lives.specs.Texts.{textSays}
 use Rattle.lives.specs.Unit.{Standing, State, SwitchedOn, standing}
-use Rattle.lives.specs.Calls.{Areas, Answered, Call, strip, look, check, run, Step, afterStrip, afterCheck, AreasAfter, retold}
+use Rattle.lives.specs.Calls.{Areas, Call, strip, look, check, run, Step, afterCheck, AreasAfter, retold}
 use Rattle.lives.specs.Life.{Life, begins, goesOn, isRefused, AreasStay}
 use Rattle.lives.proofs.Shelves.{Grows, grows-same, grows-on, strip-grows}
 
@@ -65,7 +65,8 @@ module _ (first : State) (on : SwitchedOn first) where
 
 -- ---- refused calls
 
-strip-refused : (s : State) (c n : ℕ) (cs : List ℤ) (f : Refusal) (o : Option ShelfFault) → Err f ≡ retold shelfRefusal (answerOf o) → afterOf o (s .shelf) c n cs ≡ s .shelf
+-- a refused strip leaves the shelf
+pub strip-refused : (s : State) (c n : ℕ) (cs : List ℤ) (f : Refusal) (o : Option ShelfFault) → Err f ≡ retold shelfRefusal (answerOf o) → afterOf o (s .shelf) c n cs ≡ s .shelf
 strip-refused s c n cs f None e = ok-err (sym e)
 strip-refused s c n cs f (Some g) e = refl
 

@@ -1,14 +1,14 @@
 -- A coverage after an accepted strip: its cells, its laws, and what stays known.
 use mathlib.Core.Path.{_≡_, refl, sym, ap, ap₂, subst, _∙_}
 use mathlib.Core.List.{List}
-use mathlib.Core.Bool.{Bool, true, false, cond, _&&_}
+use mathlib.Core.Bool.{Bool, true, false, cond}
 use Prim.Native.Nat.{ℕ, _<_}
 use native.Mathlib.Omega.{arith}
 use borrow.Author.Tests.{clash, eqb-true, eq-eqb}
-use lib.Dec.{eqb, ltb}
+use lib.Dec.{eqb}
 use lib.IntN.{ℤ, pos}
 use lib.ListN.{length, getD}
-use lib.Signed.{leZ, _≤ℤ_}
+use lib.Signed.{leZ}
 use Rattle.std.proofs.shelf.Signed.{ints}
 use Rattle.std.specs.Options.{isSome}
 use Rattle.std.specs.declared.option.Option.{Option}
@@ -17,10 +17,10 @@ use Rattle.coverage.specs.declared.axis.Axis.{Axis}
 use Rattle.coverage.specs.declared.axis.Axis.the-variants.{X}
 use Rattle.coverage.specs.declared.range.Range.{Range}
 use Rattle.coverage.specs.declared.kind.Kind.{Kind}
-use Rattle.coverage.specs.Axes.{Extents, Coordinates, Inside, Ordered, insideB, stepOf}
+use Rattle.coverage.specs.Axes.{Coordinates, Inside, Ordered, stepOf}
 use Rattle.coverage.specs.Kinds.{Within, fits, low, high}
-use Rattle.coverage.specs.Strips.{inStrip, rowWidth, stripAt, stripFirst, strips}
-use Rattle.coverage.proofs.Bools.{and-left, and-right, by-test}
+use Rattle.coverage.specs.Strips.{inStrip, stripAt, stripFirst}
+use Rattle.coverage.proofs.Bools.{and-left, and-right}
 use Rattle.coverage.proofs.Points.{inside-from}
 use Rattle.coverage.proofs.Numbers.{step-below}
 use Rattle.coverage.proofs.Bounds.{bounded-ordered, describable-by}

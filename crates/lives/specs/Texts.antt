@@ -8,7 +8,7 @@ use Rattle.std.specs.declared.option.Option.{Option}
 use Rattle.std.specs.declared.option.Option.the-variants.{Some, None}
 use Rattle.std.specs.declared.result.Result.{Result}
 use Rattle.std.specs.declared.result.Result.the-variants.{Ok, Err}
-use Rattle.syntax.specs.Tree.{Binding, Query}
+use Rattle.syntax.specs.Tree.{Query}
 use Rattle.lexer.specs.Toks.{toks, firstBad}
 use Rattle.parser.specs.declared.fault.TextFault.{TextFault}
 use Rattle.parser.specs.declared.fault.TextFault.the-variants.{TooLong, NoToken, NoQuery, TooLarge}

@@ -1,8 +1,8 @@
 -- What holds at every step of every life of a unit.
 use mathlib.Core.Path.{_≡_}
-use mathlib.Core.List.{List, [], _∷_, _++_, map}
-use mathlib.Core.Bool.{Bool, true, false}
-use Prim.Native.Nat.{ℕ, _≤_, _<_}
+use mathlib.Core.List.{List, _∷_, _++_, map}
+use mathlib.Core.Bool.{true}
+use Prim.Native.Nat.{ℕ, _≤_}
 use lib.IntN.{ℤ, pos}
 use lib.ListN.{length, take, drop, getD}
 use Rattle.std.specs.Options.{mapped}
@@ -10,9 +10,8 @@ use Rattle.std.specs.Finite.{nth}
 use Rattle.std.specs.declared.option.Option.{Option}
 use Rattle.std.specs.declared.option.Option.the-variants.{Some, None}
 use Rattle.std.specs.declared.result.Result.{Result}
-use Rattle.std.specs.declared.result.Result.the-variants.{Ok, Err}
+use Rattle.std.specs.declared.result.Result.the-variants.{Ok}
 use Rattle.coverage.specs.declared.axis.Axis.the-variants.{X}
-use Rattle.coverage.specs.declared.description.Description.{Description}
 use Rattle.coverage.specs.declared.refusal.Refusal.{Refusal}
 use Rattle.coverage.specs.Axes.{Extents, Coordinates, Inside, cells, numberAt, stepOf}
 use Rattle.coverage.specs.Kinds.{Within}
@@ -25,7 +24,7 @@ use Rattle.language.specs.Queries.{bindAbout, bindLooks, noPlaces, Announced, c
 use Rattle.lives.specs.declared.cell.Cell.{Cell}
 use Rattle.lives.specs.Texts.{textSays}
 use Rattle.lives.specs.Shelves.{describes, looks}
-use Rattle.lives.specs.Unit.{Standing, State, SwitchedOn, standing}
+use Rattle.lives.specs.Unit.{State, SwitchedOn, standing}
 use Rattle.lives.specs.Entries.{entry}
 use Rattle.lives.specs.Calls.{Areas, Answered, Call, strip, run, Step, workNeeded}
 use Rattle.lives.specs.Life.{Life, Checked, Stands, lastCheck, stripIn, isRefused, AreasStay}

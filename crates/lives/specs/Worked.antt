@@ -19,7 +19,6 @@ use Rattle.coverage.specs.Axes.{Extents, extents, noExtents, setAxis}
 use Rattle.shelf.specs.Meaning.{Coverage, stripAfter}
 use Rattle.shelf.specs.Faults.{shelfSays}
 use Rattle.syntax.specs.Tree.{Query}
-use Rattle.parser.specs.declared.fault.TextFault.{TextFault}
 use Rattle.parser.specs.Faults.{told}
 use Rattle.language.specs.Spans.{span, number}
 use Rattle.language.specs.Faults.{refuse}

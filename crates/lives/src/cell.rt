@@ -13,7 +13,10 @@ pub fn cell_of(value: Option<i32>) -> Cell
     ensures { λ r. ⌜ r ≡ entry value ⌝ }
 {
     match value {
-        None => Cell { value: 0, known: false },
+        None => Cell {
+            value: 0,
+            known: false,
+        },
         Some(value) => Cell { value, known: true },
     }
 }
