@@ -19,6 +19,7 @@ use Rattle.lives.specs.Unit.{State, SwitchedOn, noPlan}
 use Rattle.lives.specs.Calls.{afterStrip, afterCheck}
 use Rattle.lives.specs.Life.{begins, goesOn}
 use Rattle.lives.specs.Worked.{WorkedCasesOnTheirTexts, roof, roofDomain, strip0, strip1, around, accepts}
+use Rattle.lives.specs.Refusals.{RefusalsComeInTurn}
 use Rattle.lives.specs.Example.{SuchALifeIsLed, switchedOn}
 
 pub worked-cases : WorkedCasesOnTheirTexts
@@ -45,6 +46,28 @@ worked-cases = record {
   strip-1-again = refl;
   one-plus-one = record { query = _; says = refl; cells-are = refl; reads-are = refl };
   condense-after-plus = refl;
+}
+
+pub refusals-come-in-turn : RefusalsComeInTurn
+unfolding pointAt quotient corners limitsFault nameFault iteratorFault unaryFault binaryFault reduceFault trimFault sliceFault iteratorsFault condenseFault condenseWhereFault formFault bindingFault queryFault stripPoint toks toksBy verdict textSays
+refusals-come-in-turn = record {
+  no-such-plan = refl;
+  plan-five = refl;
+  too-long = refl;
+  ends-early = refl;
+  no-token = refl;
+  dollar-alone = refl;
+  largest-numeral = refl;
+  numeral-too-large = refl;
+  word-too-long = refl;
+  token-before-grammar = refl;
+  grammar-before-size = refl;
+  most-constructs = refl;
+  too-many-constructs = refl;
+  deepest-expression = refl;
+  too-deep = refl;
+  unknown-coverage = refl;
+  unbound-word = refl;
 }
 
 -- ---- the life

@@ -7,4 +7,5 @@ pub mod Answers
 pub mod Life
 pub mod Theorem
 pub mod Worked
+pub mod Refusals
 pub mod Example

@@ -2,6 +2,7 @@
 // what each says is its contract.
 ghost use Rattle.lives.specs.Answers.{EveryCallHasOneAnswer};
 ghost use Rattle.lives.specs.Example.{SuchALifeIsLed};
+ghost use Rattle.lives.specs.Refusals.{RefusalsComeInTurn};
 ghost use Rattle.lives.specs.Theorem.{EveryLifeKeepsItsPromises};
 ghost use Rattle.lives.specs.Worked.{WorkedCasesOnTheirTexts};
 
@@ -21,6 +22,11 @@ pub fn every_life_keeps_its_promises()
 /// The worked cases over a roof of two rows, from the bytes of their texts to cells, reads and refusals.
 pub fn worked_cases_come_out_on_their_texts()
     ensures { λ r. ⌜ WorkedCasesOnTheirTexts ⌝ }
+{}
+
+/// The refusals of a check in their turn, on both sides of each limit of a text.
+pub fn refusals_come_in_turn()
+    ensures { λ r. ⌜ RefusalsComeInTurn ⌝ }
 {}
 
 /// A life of twelve calls, accepted and refused, over that roof.
