@@ -9,3 +9,4 @@ pub mod Tables
 pub mod Ranges
 pub mod Built
 pub mod Reads
+pub mod Texts
