@@ -3,3 +3,5 @@ pub mod Takes
 pub mod Commas
 pub mod Joins
 pub mod Climb
+pub mod Comes
+pub mod Back
