@@ -5,3 +5,4 @@ pub mod Joins
 pub mod Climb
 pub mod Comes
 pub mod Back
+pub mod Viable
