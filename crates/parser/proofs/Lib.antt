@@ -6,3 +6,6 @@ pub mod Climb
 pub mod Comes
 pub mod Back
 pub mod Viable
+pub mod Tokens
+pub mod Colons
+pub mod Whole
