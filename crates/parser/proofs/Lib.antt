@@ -9,3 +9,5 @@ pub mod Viable
 pub mod Tokens
 pub mod Colons
 pub mod Whole
+pub mod Control
+pub mod Meaning

@@ -12,7 +12,7 @@ use Rattle.std.specs.declared.option.Option.the-variants.{Some, None}
 use Rattle.std.proofs.shelf.Tests.{false≢true, true≢false}
 use Rattle.coverage.specs.declared.axis.Axis.{Axis}
 use Rattle.coverage.specs.declared.range.Range.{Range}
-use Rattle.syntax.specs.Tree.{Word, Binding}
+use Rattle.syntax.specs.Tree.{Word, Binding, Query}
 use Rattle.syntax.specs.declared.Binary.{Binary}
 use Rattle.syntax.specs.declared.Unary.{Unary}
 use Rattle.syntax.specs.declared.Unary.the-variants as unary
@@ -392,3 +392,24 @@ reach (gr.slice {s = e} {a = a} {b = b} {x = x} {t = t} {o = p} {z = z} {ts = ts
 ended : (len : ℕ) (bs : List Binding) (ys : List Yield) → V len (m.ends bs ∷ []) ys [] ≡ accepted bs ys
 unfolding verdict
 ended len bs ys = refl
+
+-- a query's verdict has its bindings, and the yield of its expression
+pub record Reached (q : Query) (d len : ℕ) (ts : List Placed) : Type 0 where
+  pub yield : Yield
+  pub body : q .body ≡ yield .tree
+  pub deep : d ≡ yield .inner + 1
+  pub verdict : V len m.query [] ts ≡ accepted (q .bindings) (yield ∷ [])
+
+pub reach-query : {q : Query} {d : ℕ} {ts : List Placed} → gr.Derives q d ts → (len : ℕ) → Reached q d len ts
+reach-query (gr.query {bs = bs} {y = y} {f = f} {r = r} {e = e} {o = o} {c = c} {w = w} {z = z} a1 a2 a3 a4 a5 g a6 a7 a8) len = record {
+  yield = y;
+  body = refl;
+  deep = refl;
+  verdict =
+    sym-step len _ [] f _ the.For a1
+    ∙ reach-bindings a2 (two-symbols the.Return the.Comma (r .0) refl a3) len [] [] []
+    ∙ sym-step len _ [] r _ the.Return a3 ∙ sym-step len _ [] e _ the.Encode a4 ∙ sym-step len _ [] o _ the.Open a5
+    ∙ reach g (free-symbol 6 the.Comma c (w ∷ z ∷ []) refl refl a6) len (m.must the.Comma ∷ m.must the.Rows ∷ m.must the.Close ∷ m.ends bs ∷ []) []
+    ∙ sym-step len _ (y ∷ []) c _ the.Comma a6 ∙ sym-step len _ (y ∷ []) w _ the.Rows a7 ∙ sym-step len _ (y ∷ []) z _ the.Close a8
+    ∙ ended len bs (y ∷ []);
+}

@@ -10,3 +10,4 @@ pub mod Ranges
 pub mod Built
 pub mod Reads
 pub mod Texts
+pub mod Theorem
