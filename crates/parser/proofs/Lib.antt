@@ -3,3 +3,11 @@ pub mod Takes
 pub mod Commas
 pub mod Joins
 pub mod Climb
+pub mod Comes
+pub mod Back
+pub mod Viable
+pub mod Tokens
+pub mod Colons
+pub mod Whole
+pub mod Control
+pub mod Meaning

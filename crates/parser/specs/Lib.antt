@@ -9,3 +9,5 @@ pub mod Tables
 pub mod Ranges
 pub mod Built
 pub mod Reads
+pub mod Texts
+pub mod Theorem

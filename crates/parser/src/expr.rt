@@ -273,10 +273,11 @@ fn argument(text: &[u8], from: Done, again: bool, axis: Axis, nodes: &mut [Node]
             Ok(add(nodes, from.count, from.place, construct, from.inner, next))
         }
         None => {
-            let d = expr(text, from.next, nodes, from.count)?;
-            let next = expect(text, d.next, Symbol::Close)?;
-            let construct = Construct::Slice(again, axis, from.root, d.root);
-            Ok(add(nodes, d.count, from.place, construct, from.inner.max(deeper(d.inner)), next))
+            let position = expr(text, from.next, nodes, from.count)?;
+            let next = expect(text, position.next, Symbol::Close)?;
+            let construct = Construct::Slice(again, axis, from.root, position.root);
+            let inner = from.inner.max(deeper(position.inner));
+            Ok(add(nodes, position.count, from.place, construct, inner, next))
         }
     }
 }

@@ -9,3 +9,4 @@ pub mod ranges;
 pub mod roles;
 pub mod seen;
 pub mod take;
+pub mod text;

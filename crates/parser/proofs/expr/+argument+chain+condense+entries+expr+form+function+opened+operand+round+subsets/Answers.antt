@@ -491,15 +491,15 @@ argument-returns-in-Break-next t c =
     let x = err-from-errBy (c .from-residual-in-Break-next .result) (c .from-residual-in-Break-next .ensures .1) in
     rw (x .1, x .2) (λ s vs. c .in-Some .ensures tt (c .args .again) (c .args .axis) .turns s _ ∙ c .in-Continue-hi .ensures tt .turns _ _ _ ∙ c .in-Break-next .ensures tt _ _)
 
-pub argument-returns-in-Break-d : need.argument-returns-in-Break-d
-argument-returns-in-Break-d t c =
-    let x = err-from-errBy (c .from-residual-in-Break-d .result) (c .from-residual-in-Break-d .ensures .1) in
-    rw (x .1, x .2) (λ s vs. c .in-None .ensures tt (c .args .again) (c .args .axis) .turns s _ ∙ c .in-Break-d .ensures tt _ _)
+pub argument-returns-in-Break-position : need.argument-returns-in-Break-position
+argument-returns-in-Break-position t c =
+    let x = err-from-errBy (c .from-residual-in-Break-position .result) (c .from-residual-in-Break-position .ensures .1) in
+    rw (x .1, x .2) (λ s vs. c .in-None .ensures tt (c .args .again) (c .args .axis) .turns s _ ∙ c .in-Break-position .ensures tt _ _)
 
 pub argument-returns-in-Break-next-2 : need.argument-returns-in-Break-next-2
 argument-returns-in-Break-next-2 t c =
     let x = err-from-errBy (c .from-residual-in-Break-next-2 .result) (c .from-residual-in-Break-next-2 .ensures .1) in
-    rw (x .1, x .2) (λ s vs. c .in-None .ensures tt (c .args .again) (c .args .axis) .turns s _ ∙ c .in-Continue-d .ensures tt .turns _ _ ∙ c .in-Break-next-2 .ensures tt _ _)
+    rw (x .1, x .2) (λ s vs. c .in-None .ensures tt (c .args .again) (c .args .axis) .turns s _ ∙ c .in-Continue-position .ensures tt .turns _ _ ∙ c .in-Break-next-2 .ensures tt _ _)
 
 pub argument-limit-requires : need.argument-limit-requires
 argument-limit-requires t c κs =
@@ -524,11 +524,11 @@ argument-returns-in-Continue-next t c =
 pub argument-returns-in-Continue-next-2 : need.argument-returns-in-Continue-next-2
 argument-returns-in-Continue-next-2 t c =
     let m = c .in-None .ensures tt (c .args .again) (c .args .axis) in
-    let b = c .in-Continue-d .ensures tt in
+    let b = c .in-Continue-position .ensures tt in
     let z = c .in-Continue-next-2 .ensures tt in
     placed (c .add-in-None .ensures .after) (c .add-in-None .ensures .value) (record {
       forward = omega (arith, b .forward, z .1);
       within = z .0 .within;
       few = omega (arith, b .few, z .1);
-      turns = λ s vs. c .in-None .ensures tt (c .args .again) (c .args .axis) .turns s _ ∙ c .in-Continue-d .ensures tt .turns _ _ ∙ c .in-Continue-next-2 .ensures tt .0 .turns _ _ ∙ done build _ _ _ _ _ ∙ retold _ _ _ _ _ _ _ refl (sym (c .max .ensures ∙ ap (max (c .args .from .inner)) (c .deeper .ensures)));
+      turns = λ s vs. c .in-None .ensures tt (c .args .again) (c .args .axis) .turns s _ ∙ c .in-Continue-position .ensures tt .turns _ _ ∙ c .in-Continue-next-2 .ensures tt .0 .turns _ _ ∙ done build _ _ _ _ _ ∙ retold _ _ _ _ _ _ _ refl (sym (c .max-inner .ensures ∙ ap (max (c .args .from .inner)) (c .deeper .ensures)));
     })
