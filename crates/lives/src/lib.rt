@@ -10,4 +10,5 @@ pub use laws::every_call_has_one_answer;
 pub use laws::every_life_keeps_its_promises;
 pub use laws::refusals_come_in_turn;
 pub use laws::such_a_life_is_led;
+pub use laws::texts_say_what_the_grammar_derives;
 pub use laws::worked_cases_come_out_on_their_texts;
