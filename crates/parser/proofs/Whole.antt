@@ -1,7 +1,7 @@
 -- What the grammar derives, the machine accepts, with the very yield of the derivation.
 use mathlib.Core.Path.{_≡_, refl, sym, ap, subst, _∙_}
 use mathlib.Core.Bool.{Bool, true, false, cond}
-use mathlib.Core.List.{List, [], _∷_, _++_, append-assoc, append-nil}
+use mathlib.Core.List.{List, [], _∷_, _++_, append-assoc}
 use Prim.Native.Nat.{ℕ, zero, suc, _+_, _<_}
 use native.Mathlib.Omega.{arith}
 use lib.Dec.{eqb}
@@ -284,9 +284,6 @@ arg-range (gr.ranged {o = o} {c = c} {z = z} p (gr.below {n = n} {m = k} {t = t}
     sym-step len _ ys o _ the.Open p ∙ sym-step len _ ys k _ the.Minus i ∙ num-step len _ ys t _ n l ∙ sym-step len _ ys c _ the.Colon b ∙ reach-limit h len _ s ys ∙ sym-step len _ ys z _ the.Close d
 
 -- ---- expressions
-
-abbrev Goes : List Item → (List Yield → List Yield) → List Placed → List Placed → Type 0
-Goes x f ts us = (len : ℕ) (s : List Item) (ys : List Yield) → V len (x ++ s) ys ts ≡ V len s (f ys) us
 
 abbrev pub LevelGoal : ℕ → Yield → List Placed → List Placed → Type 0
 LevelGoal zero y ts us = Free 0 us → (len : ℕ) (s : List Item) (ys : List Yield) → V len (m.operand ∷ s) ys ts ≡ V len s (y ∷ ys) us
