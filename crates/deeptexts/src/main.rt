@@ -2,11 +2,11 @@
 // begins a query, and then repeats one piece to its end.
 ghost use Prim.Native.Nat.{ℕ, _<_};
 ghost use lib.ListN.{length};
+use coverage::Returned;
 use parser::fault::refusal;
 use parser::node::Construct;
 use parser::node::Node;
 use parser::text::read;
-use coverage::Returned;
 use std::io;
 
 // Writes a head, and then a piece again and again to the end of the text.
@@ -15,14 +15,21 @@ fn fill(text: &mut [u8], head: &[u8], piece: &[u8])
 {
     let mut i = 0;
     while i < text.len() {
-        text[i] = if i < head.len() { head[i] } else { piece[(i - head.len()) % piece.len()] };
+        text[i] = if i < head.len() {
+            head[i]
+        } else {
+            piece[(i - head.len()) % piece.len()]
+        };
         i += 1;
     }
 }
 
 // The number and the place with which a text is refused; 0 for an accepted one.
 fn told(text: &[u8]) -> (u32, usize) {
-    let mut nodes = [Node { place: 0, construct: Construct::Numeral(0) }; 64];
+    let mut nodes = [Node {
+        place: 0,
+        construct: Construct::Numeral(0),
+    }; 64];
     match read(text, &mut nodes) {
         Ok(_) => (0, 0),
         Err(f) => {

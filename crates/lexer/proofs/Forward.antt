@@ -73,13 +73,13 @@ variable-forward : (bs : List ℕ) (at s : ℕ) → at ≤ s → s < length bs �
 variable-forward bs at s a lt =
     cond-both (ltb (s + 1) (length bs) && letter (getD bs (s + 1) 0)) _ _ (Forward bs at)
     (λ e.
-        let q = and-parts (ltb (s + 1) (length bs)) (letter (getD bs (s + 1) 0)) e in
-        let h : s + 1 < length bs = ltb-true (s + 1) (length bs) (q .0) in
-        let m : s + 1 < s + 1 + run Part bs (s + 1) = run-some Part bs (s + 1) h (or-left (letter (getD bs (s + 1) 0) || digit (getD bs (s + 1) 0)) (eqb (getD bs (s + 1) 0) 95) (or-left (letter (getD bs (s + 1) 0)) (digit (getD bs (s + 1) 0)) (q .1))) in
-        let k : s + 1 + run Part bs (s + 1) ≤ length bs = run-within Part bs (s + 1) (omega arith) in
-        cond-both (ltb 16 (run Part bs (s + 1))) _ _ (Forward bs at)
-        (λ _. goes refl a (omega arith) k)
-        (λ _. goes refl a (omega arith) k))
+    let q = and-parts (ltb (s + 1) (length bs)) (letter (getD bs (s + 1) 0)) e in
+    let h : s + 1 < length bs = ltb-true (s + 1) (length bs) (q .0) in
+    let m : s + 1 < s + 1 + run Part bs (s + 1) = run-some Part bs (s + 1) h (or-left (letter (getD bs (s + 1) 0) || digit (getD bs (s + 1) 0)) (eqb (getD bs (s + 1) 0) 95) (or-left (letter (getD bs (s + 1) 0)) (digit (getD bs (s + 1) 0)) (q .1))) in
+    let k : s + 1 + run Part bs (s + 1) ≤ length bs = run-within Part bs (s + 1) (omega arith) in
+    cond-both (ltb 16 (run Part bs (s + 1))) _ _ (Forward bs at)
+    (λ _. goes refl a (omega arith) k)
+    (λ _. goes refl a (omega arith) k))
     (λ _. goes refl a (omega arith) (omega arith))
 
 numeral-forward : (bs : List ℕ) (at s : ℕ) → at ≤ s → s < length bs → digit (getD bs s 0) ≡ true → Forward bs at (numeralAt bs s)
@@ -107,12 +107,12 @@ token-forward bs at s a w =
     cond-both (leb (length bs) s) _ _ (Forward bs at)
     (λ e. record { after = a; within = w; forward = λ f. absurd (false≢true (sym f)); begins = λ f. absurd (false≢true (sym f)); ends = λ _. omega (arith, leb-true (length bs) s e) })
     (λ e.
-        let lt : s < length bs = leb-false (length bs) s e in
-        cond-both (letter (getD bs s 0)) _ _ (Forward bs at) (λ l. word-forward bs at s a lt l)
-        (λ _. cond-both (digit (getD bs s 0)) _ _ (Forward bs at) (λ l. numeral-forward bs at s a lt l)
-        (λ _. cond-both (eqb (getD bs s 0) 36) _ _ (Forward bs at) (λ _. variable-forward bs at s a lt)
-        (λ _. cond-both (eqb (getD bs s 0) 34) _ _ (Forward bs at) (λ _. rows-forward bs at s a lt)
-        (λ _. mark-forward bs at s a lt)))))
+    let lt : s < length bs = leb-false (length bs) s e in
+    cond-both (letter (getD bs s 0)) _ _ (Forward bs at) (λ l. word-forward bs at s a lt l)
+    (λ _. cond-both (digit (getD bs s 0)) _ _ (Forward bs at) (λ l. numeral-forward bs at s a lt l)
+    (λ _. cond-both (eqb (getD bs s 0) 36) _ _ (Forward bs at) (λ _. variable-forward bs at s a lt)
+    (λ _. cond-both (eqb (getD bs s 0) 34) _ _ (Forward bs at) (λ _. rows-forward bs at s a lt)
+    (λ _. mark-forward bs at s a lt)))))
 
 pub lexed-forward : (bs : List ℕ) (at : ℕ) → at ≤ length bs → Forward bs at (lexed bs at)
 lexed-forward bs at h = token-forward bs at (at + run Blank bs at) (omega arith) (run-within Blank bs at h)

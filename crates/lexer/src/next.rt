@@ -25,9 +25,17 @@ fn word_at<'a>(text: &'a [u8], place: usize) -> Lexed<'a>
 {
     let next = run_end(text, place, Class::Part);
     if next - place > LONGEST_WORD {
-        return Lexed { token: Token::Bad, place, next };
+        return Lexed {
+            token: Token::Bad,
+            place,
+            next,
+        };
     }
-    Lexed { token: word_token(&text[place..next]), place, next }
+    Lexed {
+        token: word_token(&text[place..next]),
+        place,
+        next,
+    }
 }
 
 // A `$` word whose `$` stands at `place`.
@@ -37,13 +45,25 @@ fn variable_at<'a>(text: &'a [u8], place: usize) -> Lexed<'a>
 {
     let first = place + 1;
     if first >= text.len() || !is_letter(text[first]) {
-        return Lexed { token: Token::Bad, place, next: first };
+        return Lexed {
+            token: Token::Bad,
+            place,
+            next: first,
+        };
     }
     let next = run_end(text, first, Class::Part);
     if next - first > LONGEST_WORD {
-        return Lexed { token: Token::Bad, place, next };
+        return Lexed {
+            token: Token::Bad,
+            place,
+            next,
+        };
     }
-    Lexed { token: Token::Variable(&text[first..next]), place, next }
+    Lexed {
+        token: Token::Variable(&text[first..next]),
+        place,
+        next,
+    }
 }
 
 // A numeral that begins at `place`.
@@ -55,9 +75,17 @@ fn numeral_at<'a>(text: &'a [u8], place: usize) -> Lexed<'a>
     let digits = &text[place..next];
     let n = value(digits);
     if n > LARGEST {
-        return Lexed { token: Token::Bad, place, next };
+        return Lexed {
+            token: Token::Bad,
+            place,
+            next,
+        };
     }
-    Lexed { token: Token::Numeral(digits, n), place, next }
+    Lexed {
+        token: Token::Numeral(digits, n),
+        place,
+        next,
+    }
 }
 
 // The text `"rows"`, whose first quote stands at `place`.
@@ -66,9 +94,17 @@ fn rows_at<'a>(text: &'a [u8], place: usize) -> Lexed<'a>
     ensures { λ r. ⌜ view r ≡ rowsAt (now (text .entry)) place ⌝ }
 {
     if text.len() - place >= 6 && same(&text[place..place + 6], b"\"rows\"") {
-        return Lexed { token: Token::Symbol(Symbol::Rows), place, next: place + 6 };
+        return Lexed {
+            token: Token::Symbol(Symbol::Rows),
+            place,
+            next: place + 6,
+        };
     }
-    Lexed { token: Token::Bad, place, next: place + 1 }
+    Lexed {
+        token: Token::Bad,
+        place,
+        next: place + 1,
+    }
 }
 
 // A mark of one byte.
@@ -111,10 +147,21 @@ fn mark_at<'a>(text: &'a [u8], place: usize) -> Lexed<'a>
     ensures { λ r. ⌜ view r ≡ markAt (now (text .entry)) place ⌝ }
 {
     let first = text[place];
-    if (first == b'!' || first == b'<' || first == b'>') && place + 1 < text.len() && text[place + 1] == b'=' {
-        return Lexed { token: pair_token(first), place, next: place + 2 };
+    if (first == b'!' || first == b'<' || first == b'>')
+        && place + 1 < text.len()
+        && text[place + 1] == b'='
+    {
+        return Lexed {
+            token: pair_token(first),
+            place,
+            next: place + 2,
+        };
     }
-    Lexed { token: mark_token(first), place, next: place + 1 }
+    Lexed {
+        token: mark_token(first),
+        place,
+        next: place + 1,
+    }
 }
 
 // The token at or after `at`.
@@ -124,7 +171,11 @@ fn next_token<'a>(text: &'a [u8], at: usize) -> Lexed<'a>
 {
     let place = run_end(text, at, Class::Blank);
     if place >= text.len() {
-        return Lexed { token: Token::End, place, next: place };
+        return Lexed {
+            token: Token::End,
+            place,
+            next: place,
+        };
     }
     let first = text[place];
     if is_letter(first) {

@@ -4,6 +4,7 @@ ghost use Rattle.lexer.specs.Numerals.{decimal};
 
 /// The largest value of a numeral, and the value that stands for all that are larger.
 pub const LARGEST: u32 = 2_147_483_647;
+
 const TOO_LARGE: u64 = 2_147_483_648;
 
 /// The value of a row of digits; whatever is too large is told as 2,147,483,648.

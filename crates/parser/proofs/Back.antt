@@ -61,7 +61,7 @@ opened-back act (opens.Function f) t st s ts e c =
     let x = of-expr (o .4) in
     let z = of-symbol (x .3) in
     let g : Gets primary (functioned (t .1) f (x .0)) (t ∷ ts) (z .1) =
-      subst (λ l. Gets primary (functioned (t .1) f (x .0)) (t ∷ l) (z .1)) (sym (o .2)) (gr.function e (o .3) (subst (λ l. Gets expression (x .0) (o .1) l) (z .2) (x .2)) (z .3)) in
+    subst (λ l. Gets primary (functioned (t .1) f (x .0)) (t ∷ l) (z .1)) (sym (o .2)) (gr.function e (o .3) (subst (λ l. Gets expression (x .0) (o .1) l) (z .2) (x .2)) (z .3)) in
     operand-of (subs (gr.whole g) (of-did (z .4)))
 opened-back act opens.Nothing t st s ts e c = absurd c
 
@@ -170,10 +170,10 @@ pop-back act (m.subsets ∷ s) st t p ts c =
 pop-back act (m.entry e ∷ s) st t p ts c =
     given-both (axisOf t) _ (λ w. After w ts → Comes (m.entry e ∷ s) ((t, p) ∷ ts))
     (λ a f d.
-        let o = of-symbol d in
-        let r = entry-of {e = e} {t = (t, p)} f (o .3) (o .4) in
-        let l = listed (r .1) (r .2) in
-        subst (λ q. Comes (m.entry e ∷ s) ((t, p) ∷ q)) (sym (o .2)) (co.an-entry (l .2) (l .3) (l .4)))
+    let o = of-symbol d in
+    let r = entry-of {e = e} {t = (t, p)} f (o .3) (o .4) in
+    let l = listed (r .1) (r .2) in
+    subst (λ q. Comes (m.entry e ∷ s) ((t, p) ∷ q)) (sym (o .2)) (co.an-entry (l .2) (l .3) (l .4)))
     (λ d. absurd d) c
 pop-back act (m.entries e ∷ s) st t p ts c =
     cond-both (is the.Comma t) _ _ (λ w. After w ts → Comes (m.entries e ∷ s) ((t, p) ∷ ts))

@@ -96,6 +96,7 @@ judge bs was (accepted js st) e c = limits (tooLarge (reading js st)) refl
   where
     g : Admits (toks bs 0)
     g = admitted _ (sound build (length bs) query (state [] 0 was) (toks bs 0) (subst Ends (sym e) tt))
+
     limits : (b : Bool) → tooLarge (reading js st) ≡ b → Meant bs (cond (tooLarge (reading js st)) (Err TooLarge) (Ok (reading js st)))
     limits true q = subst (λ b. Meant bs (cond b (Err TooLarge) (Ok (reading js st)))) (sym q) (c, g)
     limits false q = subst (λ b. Meant bs (cond b (Err TooLarge) (Ok (reading js st)))) (sym q) (c, g)

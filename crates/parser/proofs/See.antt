@@ -4,7 +4,6 @@ use mathlib.Core.Bool.{Bool, true, false, cond}
 use mathlib.Core.List.{List, [], _∷_, _++_}
 use Prim.Native.Nat.{ℕ, _+_, _<_, _≤_}
 use lib.ListN.{length}
-use denote.Ref.{RefT}
 use Rattle.std.specs.declared.option.Option.{Option}
 use Rattle.std.specs.declared.option.Option.the-variants.{Some, None}
 use native.Mathlib.Omega.{arith}
@@ -14,10 +13,7 @@ use Rattle.lexer.specs.declared.symbol.Symbol.{Symbol}
 use Rattle.lexer.specs.Tokens.{Tok, tok, word, variable, numeral, symbol, bad, end}
 use Rattle.lexer.specs.Toks.{Placed, toks, consed, isEnd, Peeked}
 use Rattle.lexer.specs.declared.token.Lexed.{Lexed}
-use Rattle.lexer.specs.declared.token.Token.{Token}
-use Rattle.lexer.specs.declared.token.Token.the-variants as token
-use Rattle.parser.specs.Roles.{is, numberOf, wordOf, variableOf, foldOf, operatorOf}
-use Rattle.parser.specs.Axes.{axisOf}
+use Rattle.parser.specs.Roles.{is, numberOf}
 use Rattle.parser.specs.Actions.{Action, St, build}
 use Rattle.parser.specs.Machine.{Item, Moved, stuck, moved, pops, finish, onward, Verdict, accepted, refused, verdict, given, acts, must, when}
 use Rattle.parser.specs.Reads.{on, Taken, Missed}
@@ -102,61 +98,3 @@ number-is (numeral m) n e = ap numeral (some-same m n e)
 number-is (symbol u) n e = absurd (no-some n e)
 number-is bad n e = absurd (no-some n e)
 number-is end n e = absurd (no-some n e)
-
--- ---- tokens that are of no use
-
-pub no-symbol : (t : Token) → ((s : Symbol) → t ≡ token.Symbol s → ⊥) → (s : Symbol) → is s (tok t) ≡ false
-no-symbol (token.Word w) h s = refl
-no-symbol (token.Variable w) h s = refl
-no-symbol (token.Numeral w n) h s = refl
-no-symbol (token.Symbol u) h s = absurd (h u refl)
-no-symbol token.Bad h s = refl
-no-symbol token.End h s = refl
-
-pub no-fold : (t : Token) → ((s : Symbol) → t ≡ token.Symbol s → ⊥) → foldOf (tok t) ≡ None
-no-fold (token.Word w) h = refl
-no-fold (token.Variable w) h = refl
-no-fold (token.Numeral w n) h = refl
-no-fold (token.Symbol u) h = absurd (h u refl)
-no-fold token.Bad h = refl
-no-fold token.End h = refl
-
-pub no-operator : (t : Token) → ((s : Symbol) → t ≡ token.Symbol s → ⊥) → operatorOf (tok t) ≡ None
-no-operator (token.Word w) h = refl
-no-operator (token.Variable w) h = refl
-no-operator (token.Numeral w n) h = refl
-no-operator (token.Symbol u) h = absurd (h u refl)
-no-operator token.Bad h = refl
-no-operator token.End h = refl
-
-pub no-axis : (t : Token) → ((w : RefT (List ℕ)) → t ≡ token.Word w → ⊥) → axisOf (tok t) ≡ None
-no-axis (token.Word w) h = absurd (h w refl)
-no-axis (token.Variable w) h = refl
-no-axis (token.Numeral w n) h = refl
-no-axis (token.Symbol u) h = refl
-no-axis token.Bad h = refl
-no-axis token.End h = refl
-
-pub no-word : (t : Token) → ((w : RefT (List ℕ)) → t ≡ token.Word w → ⊥) → wordOf (tok t) ≡ None
-no-word (token.Word w) h = absurd (h w refl)
-no-word (token.Variable w) h = refl
-no-word (token.Numeral w n) h = refl
-no-word (token.Symbol u) h = refl
-no-word token.Bad h = refl
-no-word token.End h = refl
-
-pub no-variable : (t : Token) → ((w : RefT (List ℕ)) → t ≡ token.Variable w → ⊥) → variableOf (tok t) ≡ None
-no-variable (token.Word w) h = refl
-no-variable (token.Variable w) h = absurd (h w refl)
-no-variable (token.Numeral w n) h = refl
-no-variable (token.Symbol u) h = refl
-no-variable token.Bad h = refl
-no-variable token.End h = refl
-
-pub no-number : (t : Token) → ((w : RefT (List ℕ)) (n : ℕ) → t ≡ token.Numeral w n → ⊥) → numberOf (tok t) ≡ None
-no-number (token.Word w) h = refl
-no-number (token.Variable w) h = refl
-no-number (token.Numeral w n) h = absurd (h w n refl)
-no-number (token.Symbol u) h = refl
-no-number token.Bad h = refl
-no-number token.End h = refl

@@ -44,7 +44,7 @@ a-one : (us : List Placed) → (y : Yield) × Gets (level 0) y (one ∷ us) us
 a-one us = (_, gr.plain (gr.whole (gr.number refl)))
 
 fill-expr : {s : List Item} → Filled s → Filled (m.expr ∷ s)
-fill-expr r = (one ∷ r .0, co.an-expr (gr.chain (gr.tighter (gr.tighter (gr.tighter (gr.tighter (gr.tighter (gr.tighter (a-one (r .0) .1))))))) ) (r .1))
+fill-expr r = (one ∷ r .0, co.an-expr (gr.chain (gr.tighter (gr.tighter (gr.tighter (gr.tighter (gr.tighter (gr.tighter (a-one (r .0) .1)))))))) (r .1))
 
 fill-symbol : {s : List Item} (x : Symbol) → Filled s → Filled (m.must x ∷ s)
 fill-symbol x r = ((symbol x, 0) ∷ r .0, co.a-symbol (same-self x) (r .1))

@@ -1,7 +1,7 @@
 -- What the grammar derives, the machine accepts, with the very yield of the derivation.
 use mathlib.Core.Path.{_≡_, refl, sym, ap, subst, _∙_}
 use mathlib.Core.Bool.{Bool, true, false, cond}
-use mathlib.Core.List.{List, [], _∷_, _++_, append-assoc, append-nil}
+use mathlib.Core.List.{List, [], _∷_, _++_, append-assoc}
 use Prim.Native.Nat.{ℕ, zero, suc, _+_, _<_}
 use native.Mathlib.Omega.{arith}
 use lib.Dec.{eqb}
@@ -273,7 +273,8 @@ close-colon z c e i j = true≢false (sym (subst (Is the.Colon) (sym e) j) ∙ t
 no-trim : {y : Yield} {ts us : List Placed} {z : Placed} → Gets expression y ts (z ∷ us) → Is the.Close z → NoTrim ts
 no-trim {z = z} g e = (
   λ n t vs h i. no-colon vs (λ c r k j. close-colon z c (first _ _ _ _ (colon-left g n t c r (h ∙ ap (λ l. t ∷ l) k) i j)) e j),
-  λ u vs h i n t ws k o. no-colon ws (λ c r l j. close-colon z c (first _ _ _ _ (minus-left g u n t c r (h ∙ ap (λ q. u ∷ q) (k ∙ ap (λ q. t ∷ q) l)) i o j)) e j))
+  λ u vs h i n t ws k o. no-colon ws (λ c r l j. close-colon z c (first _ _ _ _ (minus-left g u n t c r (h ∙ ap (λ q. u ∷ q) (k ∙ ap (λ q. t ∷ q) l)) i o j)) e j),
+)
 
 -- a range
 arg-range : {r : Range} {ts us : List Placed} → Ranged r ts us → (len : ℕ) (g : Bool) (a : Axis) (s : List Item) (ys : List Yield) → V len (m.must the.Open ∷ m.arg g a ∷ s) ys ts ≡ V len (m.acts (actions.trim g a r) ∷ s) ys us
@@ -283,9 +284,6 @@ arg-range (gr.ranged {o = o} {c = c} {z = z} p (gr.below {n = n} {m = k} {t = t}
     sym-step len _ ys o _ the.Open p ∙ sym-step len _ ys k _ the.Minus i ∙ num-step len _ ys t _ n l ∙ sym-step len _ ys c _ the.Colon b ∙ reach-limit h len _ s ys ∙ sym-step len _ ys z _ the.Close d
 
 -- ---- expressions
-
-abbrev Goes : List Item → (List Yield → List Yield) → List Placed → List Placed → Type 0
-Goes x f ts us = (len : ℕ) (s : List Item) (ys : List Yield) → V len (x ++ s) ys ts ≡ V len s (f ys) us
 
 abbrev pub LevelGoal : ℕ → Yield → List Placed → List Placed → Type 0
 LevelGoal zero y ts us = Free 0 us → (len : ℕ) (s : List Item) (ys : List Yield) → V len (m.operand ∷ s) ys ts ≡ V len s (y ∷ ys) us
@@ -348,15 +346,18 @@ reach (gr.coverage {n = n} {is = xs} {b = b} {c = c} {w = w} {o = o} {v = v} {vs
     ∙ sym-step len _ ys v _ the.Values a5
     ∙ reach a6 q len (m.acts (actions.cover (c .1) xs) ∷ s) ys
     ∙ done mean len (actions.cover (c .1) xs) s (b ∷ ys) vs
-reach (gr.tighter {n = n} {y = y} {ts = ts} {us = us} g) =
-    (λ q f len s ys. mainly n y ts us (reach g) f len (m.tail n ∷ s) ys,
-     λ f len s ys. mainly n y ts us (reach g) (free-less n us f) len (m.tail n ∷ s) ys ∙ no-tail len n s (y ∷ ys) us f)
-reach (gr.joins {n = n} {o = o} {a = a} {b = b} {t = t} {ts = ts} {us = us} {vs = vs} q g j h) =
-    (λ _ f len s ys. joined-left n o a b t ts us vs q (reach g) j (reach h) f len s ys,
-     λ f len s ys. joined-left n o a b t ts us vs q (reach g) j (reach h) (free-less n vs f) len s ys ∙ no-tail len n s _ vs f)
-reach (gr.compares {o = o} {a = a} {b = b} {t = t} {ts = ts} {us = us} {vs = vs} g j h) =
-    (λ q. absurd (true≢false q),
-     λ f len s ys. mainly 2 a ts (t ∷ us) (reach g) (free-joins 2 o t us j) len (m.tail 2 ∷ s) ys ∙ joining 2 o a b t us vs j (reach h) (free-less 2 vs f) len s ys)
+reach (gr.tighter {n = n} {y = y} {ts = ts} {us = us} g) = (
+  λ q f len s ys. mainly n y ts us (reach g) f len (m.tail n ∷ s) ys,
+  λ f len s ys. mainly n y ts us (reach g) (free-less n us f) len (m.tail n ∷ s) ys ∙ no-tail len n s (y ∷ ys) us f,
+)
+reach (gr.joins {n = n} {o = o} {a = a} {b = b} {t = t} {ts = ts} {us = us} {vs = vs} q g j h) = (
+  λ _ f len s ys. joined-left n o a b t ts us vs q (reach g) j (reach h) f len s ys,
+  λ f len s ys. joined-left n o a b t ts us vs q (reach g) j (reach h) (free-less n vs f) len s ys ∙ no-tail len n s _ vs f,
+)
+reach (gr.compares {o = o} {a = a} {b = b} {t = t} {ts = ts} {us = us} {vs = vs} g j h) = (
+  λ q. absurd (true≢false q),
+  λ f len s ys. mainly 2 a ts (t ∷ us) (reach g) (free-joins 2 o t us j) len (m.tail 2 ∷ s) ys ∙ joining 2 o a b t us vs j (reach h) (free-less 2 vs f) len s ys,
+)
 reach (gr.prefix {u = u} {y = y} {t = t} {ts = ts} {us = us} o g) = λ f len s ys.
     opening-step len s ys t ts (opens.Prefix u) o prefix-some ∙ reach g f len (m.acts (prefix (t .1) u) ∷ s) ys ∙ done mean len (prefix (t .1) u) s (y ∷ ys) us
 reach (gr.plain {y = y} {us = us} g) = λ f len s ys. reach g len s ys ∙ no-subsets len s (y ∷ ys) us f
@@ -406,10 +407,10 @@ reach-query (gr.query {bs = bs} {y = y} {f = f} {r = r} {e = e} {o = o} {c = c} 
   body = refl;
   deep = refl;
   verdict =
-    sym-step len _ [] f _ the.For a1
-    ∙ reach-bindings a2 (two-symbols the.Return the.Comma (r .0) refl a3) len [] [] []
-    ∙ sym-step len _ [] r _ the.Return a3 ∙ sym-step len _ [] e _ the.Encode a4 ∙ sym-step len _ [] o _ the.Open a5
-    ∙ reach g (free-symbol 6 the.Comma c (w ∷ z ∷ []) refl refl a6) len (m.must the.Comma ∷ m.must the.Rows ∷ m.must the.Close ∷ m.ends bs ∷ []) []
-    ∙ sym-step len _ (y ∷ []) c _ the.Comma a6 ∙ sym-step len _ (y ∷ []) w _ the.Rows a7 ∙ sym-step len _ (y ∷ []) z _ the.Close a8
-    ∙ ended len bs (y ∷ []);
+      sym-step len _ [] f _ the.For a1
+      ∙ reach-bindings a2 (two-symbols the.Return the.Comma (r .0) refl a3) len [] [] []
+      ∙ sym-step len _ [] r _ the.Return a3 ∙ sym-step len _ [] e _ the.Encode a4 ∙ sym-step len _ [] o _ the.Open a5
+      ∙ reach g (free-symbol 6 the.Comma c (w ∷ z ∷ []) refl refl a6) len (m.must the.Comma ∷ m.must the.Rows ∷ m.must the.Close ∷ m.ends bs ∷ []) []
+      ∙ sym-step len _ (y ∷ []) c _ the.Comma a6 ∙ sym-step len _ (y ∷ []) w _ the.Rows a7 ∙ sym-step len _ (y ∷ []) z _ the.Close a8
+      ∙ ended len bs (y ∷ []);
 }

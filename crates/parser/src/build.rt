@@ -34,11 +34,24 @@ fn put(nodes: &mut [Node], n: usize, x: Node)
 }
 
 /// Adds a construct as the n-th node.
-pub fn add(nodes: &mut [Node], n: usize, place: usize, construct: Construct, inner: usize, next: usize) -> Done
+pub fn add(
+    nodes: &mut [Node],
+    n: usize,
+    place: usize,
+    construct: Construct,
+    inner: usize,
+    next: usize,
+) -> Done
     requires { ⌜ n < next ⌝ }
     ensures after { λ _. ⌜ now (nodes .exit) ≡ set (now (nodes .entry)) n (nodeAt place construct) ⌝ }
     ensures value { λ r. ⌜ r ≡ built n place inner next ⌝ }
 {
     put(nodes, n, Node { place, construct });
-    Done { root: n, place, inner, count: n + 1, next }
+    Done {
+        root: n,
+        place,
+        inner,
+        count: n + 1,
+        next,
+    }
 }

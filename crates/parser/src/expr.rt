@@ -9,7 +9,6 @@ ghost use Rattle.parser.specs.Actions.{apply, wrap};
 ghost use Rattle.parser.specs.Machine.{must, acts, ladder, iterating2, covering, sign as signItem, anyWord, expr as exprItem, operand as operandItem, subsets as subsetsItem, entry as entryItem, arg as argItem};
 ghost use Rattle.parser.specs.Built.{value};
 ghost use Rattle.parser.specs.Reads.{Parsed, Ahead, OpenedRead};
-use coverage::Axis;
 use crate::build::Done;
 use crate::build::add;
 use crate::build::deeper;
@@ -34,12 +33,14 @@ use crate::take::limit;
 use crate::take::number_of;
 use crate::take::sign_at;
 use crate::take::word_at;
+use coverage::Axis;
 use lexer::Symbol;
 use lexer::Token;
 use lexer::peek;
 use syntax::Unary;
 
 const LEVELS: usize = 6;
+
 const COMPARISONS: usize = 2;
 
 // The operator that a token is.
@@ -106,7 +107,13 @@ pub fn expr(text: &[u8], at: usize, nodes: &mut [Node], count: usize) -> Result<
 }
 
 // What follows the word `condense`, which stands at `place`.
-fn condense(text: &[u8], place: usize, at: usize, nodes: &mut [Node], count: usize) -> Result<Done, usize>
+fn condense(
+    text: &[u8],
+    place: usize,
+    at: usize,
+    nodes: &mut [Node],
+    count: usize,
+) -> Result<Done, usize>
     requires { ⌜ at ≤ length (now text) ⌝ ∗ ⌜ count < at ⌝ }
     ensures { λ r. ⌜ Parsed (signItem place ∷ []) [] (now (text .entry)) at count (now (nodes .entry)) (now (nodes .exit)) r ⌝ }
 {
@@ -119,17 +126,37 @@ fn condense(text: &[u8], place: usize, at: usize, nodes: &mut [Node], count: usi
         let at = expect(text, pick.next, Symbol::Using)?;
         let body = expr(text, at, nodes, pick.count)?;
         let inner = deeper(pick.inner.max(body.inner));
-        Ok(add(nodes, body.count, place, Construct::CondenseWhere(fold, iterators, pick.root, body.root), inner, body.next))
+        Ok(add(
+            nodes,
+            body.count,
+            place,
+            Construct::CondenseWhere(fold, iterators, pick.root, body.root),
+            inner,
+            body.next,
+        ))
     } else {
         let at = expect(text, at, Symbol::Using)?;
         let body = expr(text, at, nodes, count)?;
         let inner = deeper(body.inner);
-        Ok(add(nodes, body.count, place, Construct::Condense(fold, iterators, body.root), inner, body.next))
+        Ok(add(
+            nodes,
+            body.count,
+            place,
+            Construct::Condense(fold, iterators, body.root),
+            inner,
+            body.next,
+        ))
     }
 }
 
 // What follows the word `coverage`, which stands at `place`. The form's own word has no effect.
-fn form(text: &[u8], place: usize, at: usize, nodes: &mut [Node], count: usize) -> Result<Done, usize>
+fn form(
+    text: &[u8],
+    place: usize,
+    at: usize,
+    nodes: &mut [Node],
+    count: usize,
+) -> Result<Done, usize>
     requires { ⌜ at ≤ length (now text) ⌝ ∗ ⌜ count < at ⌝ }
     ensures { λ r. ⌜ Parsed (anyWord ∷ iterating2 (covering place) []) [] (now (text .entry)) at count (now (nodes .entry)) (now (nodes .exit)) r ⌝ }
 {
@@ -139,11 +166,24 @@ fn form(text: &[u8], place: usize, at: usize, nodes: &mut [Node], count: usize) 
     let at = expect(text, at, Symbol::Values)?;
     let body = expr(text, at, nodes, count)?;
     let inner = deeper(body.inner);
-    Ok(add(nodes, body.count, place, Construct::Form(iterators, body.root), inner, body.next))
+    Ok(add(
+        nodes,
+        body.count,
+        place,
+        Construct::Form(iterators, body.root),
+        inner,
+        body.next,
+    ))
 }
 
 // A chain of the levels below `top`: an operand, and operators with their right operands, from the left.
-fn chain(text: &[u8], at: usize, top: usize, nodes: &mut [Node], count: usize) -> Result<Done, usize>
+fn chain(
+    text: &[u8],
+    at: usize,
+    top: usize,
+    nodes: &mut [Node],
+    count: usize,
+) -> Result<Done, usize>
     requires { ⌜ at ≤ length (now text) ⌝ ∗ ⌜ count ≤ at ⌝ }
     ensures { λ r. ⌜ Parsed (operandItem ∷ ladder top 0) [] (now (text .entry)) at count (now (nodes .entry)) (now (nodes .exit)) r ⌝ }
 {
@@ -156,8 +196,19 @@ fn chain(text: &[u8], at: usize, top: usize, nodes: &mut [Node], count: usize) -
         };
         let right = chain(text, t.next, o.level, nodes, left.count)?;
         let construct = Construct::Binary(o.binary, left.root, right.root);
-        left = add(nodes, right.count, left.place, construct, left.inner.max(right.inner), right.next);
-        from = if o.level == COMPARISONS { COMPARISONS + 1 } else { o.level };
+        left = add(
+            nodes,
+            right.count,
+            left.place,
+            construct,
+            left.inner.max(right.inner),
+            right.next,
+        );
+        from = if o.level == COMPARISONS {
+            COMPARISONS + 1
+        } else {
+            o.level
+        };
     }
 }
 
@@ -169,8 +220,14 @@ fn operand(text: &[u8], at: usize, nodes: &mut [Node], count: usize) -> Result<D
     let t = peek(text, at);
     let leaf = match t.token {
         Token::Numeral(_, n) => Construct::Numeral(n),
-        Token::Variable(w) => Construct::Name(Part { place: t.place + 1, length: w.len() }),
-        Token::Word(w) => Construct::Iterator(Part { place: t.place, length: w.len() }),
+        Token::Variable(w) => Construct::Name(Part {
+            place: t.place + 1,
+            length: w.len(),
+        }),
+        Token::Word(w) => Construct::Iterator(Part {
+            place: t.place,
+            length: w.len(),
+        }),
         Token::Symbol(s) => return opened(text, opening_of(s), t.place, t.next, nodes, count),
         _ => return Err(t.place),
     };
@@ -179,7 +236,14 @@ fn operand(text: &[u8], at: usize, nodes: &mut [Node], count: usize) -> Result<D
 }
 
 // What follows a symbol that begins an operand, and stands at `place`.
-fn opened(text: &[u8], opening: Opening, place: usize, at: usize, nodes: &mut [Node], count: usize) -> Result<Done, usize>
+fn opened(
+    text: &[u8],
+    opening: Opening,
+    place: usize,
+    at: usize,
+    nodes: &mut [Node],
+    count: usize,
+) -> Result<Done, usize>
     requires { ⌜ at ≤ length (now text) ⌝ ∗ ⌜ count < at ⌝ }
     ensures { λ r. ⌜ OpenedRead opening place (now (text .entry)) at count (now (nodes .entry)) (now (nodes .exit)) r ⌝ }
 {
@@ -191,7 +255,14 @@ fn opened(text: &[u8], opening: Opening, place: usize, at: usize, nodes: &mut [N
         }
         Opening::Prefix(u) => {
             let d = operand(text, at, nodes, count)?;
-            Ok(add(nodes, d.count, place, Construct::Unary(u, d.root), d.inner, d.next))
+            Ok(add(
+                nodes,
+                d.count,
+                place,
+                Construct::Unary(u, d.root),
+                d.inner,
+                d.next,
+            ))
         }
         Opening::Function(f) => function(text, f, place, at, nodes, count),
         Opening::Nothing => Err(place),
@@ -199,17 +270,40 @@ fn opened(text: &[u8], opening: Opening, place: usize, at: usize, nodes: &mut [N
 }
 
 // What follows an open round bracket, which stands at `place`.
-fn round(text: &[u8], place: usize, at: usize, nodes: &mut [Node], count: usize) -> Result<Done, usize>
+fn round(
+    text: &[u8],
+    place: usize,
+    at: usize,
+    nodes: &mut [Node],
+    count: usize,
+) -> Result<Done, usize>
     requires { ⌜ at ≤ length (now text) ⌝ ∗ ⌜ count < at ⌝ }
     ensures { λ r. ⌜ Parsed (exprItem ∷ must CloseSign ∷ acts (wrap place) ∷ subsetsItem ∷ []) [] (now (text .entry)) at count (now (nodes .entry)) (now (nodes .exit)) r ⌝ }
 {
     let d = expr(text, at, nodes, count)?;
     let next = expect(text, d.next, Symbol::Close)?;
-    subsets(text, Done { root: d.root, place, inner: deeper(d.inner), count: d.count, next }, nodes)
+    subsets(
+        text,
+        Done {
+            root: d.root,
+            place,
+            inner: deeper(d.inner),
+            count: d.count,
+            next,
+        },
+        nodes,
+    )
 }
 
 // What follows the name of a function, which stands at `place`.
-fn function(text: &[u8], f: Function, place: usize, at: usize, nodes: &mut [Node], count: usize) -> Result<Done, usize>
+fn function(
+    text: &[u8],
+    f: Function,
+    place: usize,
+    at: usize,
+    nodes: &mut [Node],
+    count: usize,
+) -> Result<Done, usize>
     requires { ⌜ at ≤ length (now text) ⌝ ∗ ⌜ count < at ⌝ }
     ensures { λ r. ⌜ Parsed (must OpenSign ∷ exprItem ∷ must CloseSign ∷ acts (apply place f) ∷ subsetsItem ∷ []) [] (now (text .entry)) at count (now (nodes .entry)) (now (nodes .exit)) r ⌝ }
 {
@@ -235,8 +329,23 @@ fn subsets(text: &[u8], from: Done, nodes: &mut [Node]) -> Result<Done, usize>
         if !is_symbol(t.token, Symbol::OpenSquare) {
             return Ok(d);
         }
-        let seen = Seen { x: false, y: false, t: false };
-        d = entries(text, Done { root: d.root, place: d.place, inner: d.inner, count: d.count, next: t.next }, seen, nodes)?;
+        let seen = Seen {
+            x: false,
+            y: false,
+            t: false,
+        };
+        d = entries(
+            text,
+            Done {
+                root: d.root,
+                place: d.place,
+                inner: d.inner,
+                count: d.count,
+                next: t.next,
+            },
+            seen,
+            nodes,
+        )?;
     }
 }
 
@@ -247,10 +356,22 @@ fn entries(text: &[u8], from: Done, seen: Seen, nodes: &mut [Node]) -> Result<Do
 {
     let (axis, at) = axis_at(text, from.next)?;
     let next = expect(text, at, Symbol::Open)?;
-    let inside = Done { root: from.root, place: from.place, inner: from.inner, count: from.count, next };
+    let inside = Done {
+        root: from.root,
+        place: from.place,
+        inner: from.inner,
+        count: from.count,
+        next,
+    };
     let d = argument(text, inside, seen_before(seen, axis), axis, nodes)?;
     let t = peek(text, d.next);
-    let after = Done { root: d.root, place: d.place, inner: d.inner, count: d.count, next: t.next };
+    let after = Done {
+        root: d.root,
+        place: d.place,
+        inner: d.inner,
+        count: d.count,
+        next: t.next,
+    };
     if is_symbol(t.token, Symbol::Comma) {
         entries(text, after, mark_seen(seen, axis), nodes)
     } else if is_symbol(t.token, Symbol::CloseSquare) {
@@ -261,7 +382,13 @@ fn entries(text: &[u8], from: Done, seen: Seen, nodes: &mut [Node]) -> Result<Do
 }
 
 // What an entry has in its round brackets: a range, for a trim, or a position, for a slice.
-fn argument(text: &[u8], from: Done, again: bool, axis: Axis, nodes: &mut [Node]) -> Result<Done, usize>
+fn argument(
+    text: &[u8],
+    from: Done,
+    again: bool,
+    axis: Axis,
+    nodes: &mut [Node],
+) -> Result<Done, usize>
     requires { ⌜ from .next ≤ length (now text) ⌝ ∗ ⌜ from .count < from .next ⌝ }
     ensures { λ r. ⌜ Parsed (argItem again axis ∷ []) (value from ∷ []) (now (text .entry)) (from .next) (from .count) (now (nodes .entry)) (now (nodes .exit)) r ⌝ }
 {

@@ -24,5 +24,9 @@ pub fn refusal(fault: TextFault) -> Refusal
         TextFault::NoQuery(p) => (3, p),
         TextFault::TooLarge => (4, 0),
     };
-    Refusal { layer: Layer::Text, number, returned: Returned::One(place) }
+    Refusal {
+        layer: Layer::Text,
+        number,
+        returned: Returned::One(place),
+    }
 }

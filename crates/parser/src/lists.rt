@@ -28,7 +28,14 @@ pub fn iterator_at(text: &[u8], at: usize) -> Result<(Iteration, usize), usize>
     let at = expect(text, at, Symbol::Colon)?;
     let (hi, at) = limit(text, at)?;
     let next = expect(text, at, Symbol::Close)?;
-    Ok((Iteration { word, axis, range: range_of(lo, hi) }, next))
+    Ok((
+        Iteration {
+            word,
+            axis,
+            range: range_of(lo, hi),
+        },
+        next,
+    ))
 }
 
 /// Takes one to three iterators with commas.

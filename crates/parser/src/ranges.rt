@@ -14,12 +14,19 @@ pub struct Signed {
 pub fn coordinate(c: Signed) -> i64
     ensures { λ r. ⌜ r ≡ coordinateOf c ⌝ }
 {
-    if c.minus { -(c.size as i64) } else { c.size as i64 }
+    if c.minus {
+        -(c.size as i64)
+    } else {
+        c.size as i64
+    }
 }
 
 /// The range between two coordinates.
 pub fn range_of(lo: Signed, hi: Signed) -> Range
     ensures { λ r. ⌜ r ≡ spanning (coordinateOf lo) (coordinateOf hi) ⌝ }
 {
-    Range { lo: coordinate(lo), hi: coordinate(hi) }
+    Range {
+        lo: coordinate(lo),
+        hi: coordinate(hi),
+    }
 }

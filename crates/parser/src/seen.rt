@@ -26,8 +26,20 @@ pub fn mark_seen(seen: Seen, axis: Axis) -> Seen
     ensures { λ r. ⌜ r ≡ marks seen axis ⌝ }
 {
     match axis {
-        Axis::X => Seen { x: true, y: seen.y, t: seen.t },
-        Axis::Y => Seen { x: seen.x, y: true, t: seen.t },
-        Axis::T => Seen { x: seen.x, y: seen.y, t: true },
+        Axis::X => Seen {
+            x: true,
+            y: seen.y,
+            t: seen.t,
+        },
+        Axis::Y => Seen {
+            x: seen.x,
+            y: true,
+            t: seen.t,
+        },
+        Axis::T => Seen {
+            x: seen.x,
+            y: seen.y,
+            t: true,
+        },
     }
 }

@@ -5,10 +5,10 @@ ghost use Rattle.lexer.specs.Tokens.{tok};
 ghost use Rattle.parser.specs.Axes.{axisOf};
 ghost use Rattle.parser.specs.Roles.{is, foldOf, numberOf, wordOf, variableOf};
 ghost use Rattle.parser.specs.Reads.{Expected, TakenAs, asAxis, asFold, asNumber, asWord, asVariable, LimitRead};
-use coverage::Axis;
 use crate::node::Part;
 use crate::ranges::Signed;
 use crate::roles::fold_of;
+use coverage::Axis;
 use lexer::Symbol;
 use lexer::Token;
 use lexer::peek;
@@ -60,7 +60,11 @@ pub fn expect(text: &[u8], at: usize, want: Symbol) -> Result<usize, usize>
     ensures { λ r. ⌜ Expected want (now (text .entry)) at r ⌝ }
 {
     let t = peek(text, at);
-    if is_symbol(t.token, want) { Ok(t.next) } else { Err(t.place) }
+    if is_symbol(t.token, want) {
+        Ok(t.next)
+    } else {
+        Err(t.place)
+    }
 }
 
 /// Takes the word of an axis.
@@ -82,7 +86,13 @@ pub fn word_at(text: &[u8], at: usize) -> Result<(Part, usize), usize>
 {
     let t = peek(text, at);
     match t.token {
-        Token::Word(w) => Ok((Part { place: t.place, length: w.len() }, t.next)),
+        Token::Word(w) => Ok((
+            Part {
+                place: t.place,
+                length: w.len(),
+            },
+            t.next,
+        )),
         _ => Err(t.place),
     }
 }
@@ -94,7 +104,13 @@ pub fn variable_at(text: &[u8], at: usize) -> Result<(Part, usize), usize>
 {
     let t = peek(text, at);
     match t.token {
-        Token::Variable(w) => Ok((Part { place: t.place + 1, length: w.len() }, t.next)),
+        Token::Variable(w) => Ok((
+            Part {
+                place: t.place + 1,
+                length: w.len(),
+            },
+            t.next,
+        )),
         _ => Err(t.place),
     }
 }

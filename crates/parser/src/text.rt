@@ -30,7 +30,9 @@ pub struct Reading {
 }
 
 const LONGEST_TEXT: usize = 4096;
+
 const MOST_CONSTRUCTS: usize = 64;
+
 const DEEPEST_INNER: usize = 11;
 
 // Reads all of a text as a query, or tells the place of the first token with which no query begins.
@@ -48,7 +50,12 @@ fn whole(text: &[u8], nodes: &mut [Node]) -> Result<Reading, usize>
     let at = expect(text, at, Symbol::Close)?;
     let t = peek(text, at);
     match t.token {
-        Token::End => Ok(Reading { bindings, root: d.root, inner: d.inner, count: d.count }),
+        Token::End => Ok(Reading {
+            bindings,
+            root: d.root,
+            inner: d.inner,
+            count: d.count,
+        }),
         _ => Err(t.place),
     }
 }

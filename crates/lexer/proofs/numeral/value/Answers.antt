@@ -14,12 +14,14 @@ loop-i-again c =
     let v = c .loop-i .v in
     let b = getD ds i 0 in
     let r : c .min-v .result ≡ min (10 * v + (b - 48)) 2147483648 = c .min-v .ensures ∙ ap (λ x. min (10 * v + x) 2147483648) (c .saturating-sub .ensures) in
-    let step : decimal v (drop i ds) ≡ decimal (10 * v + (b - 48)) (drop (i + 1) ds) = at-drop-more (decimal v) ds i 0 (omega arith) in
-    (omega arith, omega arith,
-     ap (λ x. min 2147483648 (decimal x (drop (i + 1) ds))) r
-     ∙ capped 2147483648 (10 * v + (b - 48)) (drop (i + 1) ds)
-     ∙ ap (min 2147483648) (sym step)
-     ∙ c .loop-i .inv .2)
+    let step : decimal v (drop i ds) ≡ decimal (10 * v + (b - 48)) (drop (i + 1) ds) = at-drop-more (decimal v) ds i 0 (omega arith) in (
+      omega arith,
+      omega arith,
+      ap (λ x. min 2147483648 (decimal x (drop (i + 1) ds))) r
+          ∙ capped 2147483648 (10 * v + (b - 48)) (drop (i + 1) ds)
+          ∙ ap (min 2147483648) (sym step)
+          ∙ c .loop-i .inv .2,
+    )
 
 pub returns : need.returns
 returns c =

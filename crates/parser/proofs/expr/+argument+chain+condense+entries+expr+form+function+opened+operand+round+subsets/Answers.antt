@@ -120,9 +120,13 @@ expr-returns-else-is-symbol-2 t c =
     let q = c .peek-t .result .place in
     let e : is the.Condense (tok (c .peek-t .result .token)) ≡ false = sym (c .is-symbol .ensures) ∙ c .if-is-symbol .left in
     let f : is the.Coverage (tok (c .peek-t .result .token)) ≡ false = sym (c .is-symbol-else-is-symbol .ensures) ∙ c .if-is-symbol-2 .left in
-    passed _ _ _ _ (c .chain .result) (record { forward = omega arith; within = c .pre .0; turns = λ s st.
-      alike p _ st (operand ∷ (levels ++ s)) st (λ _. refl)
-        (λ i. cond (e i) (moved (sign q ∷ s) st) (cond (f i) (moved (anyWord ∷ iterating2 (covering q) s) st) (begins build (tok (c .peek-t .result .token)) q st (levels ++ s)))) }) (c .chain .ensures)
+    passed _ _ _ _ (c .chain .result) (record {
+      forward = omega arith;
+      within = c .pre .0;
+      turns = λ s st.
+          alike p _ st (operand ∷ (levels ++ s)) st (λ _. refl)
+          (λ i. cond (e i) (moved (sign q ∷ s) st) (cond (f i) (moved (anyWord ∷ iterating2 (covering q) s) st) (begins build (tok (c .peek-t .result .token)) q st (levels ++ s))));
+    }) (c .chain .ensures)
 
 -- without `where`, `using` is due
 no-where : {bs : List ℕ} {at : ℕ} {r : Lexed} → Peeked bs at r → is the.Where (tok (r .token)) ≡ false → (p : ℕ) (f : Fold) (js : List Placing) (s : List Item) (st : St) → on bs (iterators 0 (condensing p f) js ∷ s) st at ≡ on bs (must the.Using ∷ expr ∷ acts (condense p f js) ∷ s) st at
@@ -255,8 +259,8 @@ chain-returns-in-rest t c =
       within = i .1 .within;
       few = omega (arith, h .few, i .1 .few);
       turns = λ s vs. h .turns (ladder top 0 ++ s) vs ∙ i .1 .turns s vs
-        ∙ alike (c .peek-t .ensures) (ladder (top - from) from ++ s) _ s _ (λ q. finish-ladder build (top - from) from s _ q)
-            (passes-over build (top - from) from s _ _ _ (λ m a b. ap (ofLevel m) (sym (c .token-operator .ensures)) ∙ none-between from top (c .token-operator .result) n m a (omega arith)));
+          ∙ alike (c .peek-t .ensures) (ladder (top - from) from ++ s) _ s _ (λ q. finish-ladder build (top - from) from s _ q)
+          (passes-over build (top - from) from s _ _ _ (λ m a b. ap (ofLevel m) (sym (c .token-operator .ensures)) ∙ none-between from top (c .token-operator .result) n m a (omega arith)));
     }
 
 -- from an operator of a chain's levels on
@@ -265,7 +269,7 @@ climbing {r = r} p from top x o e f s st =
     let h = found-between from top x o f in
     let g : operatorOf (tok (r .token)) ≡ Some o = sym e ∙ h .0 in
     turn p (found operatorOf refl (tok (r .token)) o g) _ st _ st
-      (climbs build (top - from) from s st (tok (r .token)) (r .place) o (top - suc (o .level)) g (h .1) (omega (arith, h .1, h .2)))
+    (climbs build (top - from) from s st (tok (r .token)) (r .place) o (top - suc (o .level)) g (h .1) (omega (arith, h .1, h .2)))
 
 -- what is due after it
 again-other : (l top : ℕ) (s : List Item) → (l ≡ 2 → ⊥) → l < top → again l (ladder (top - suc l) (suc l) ++ s) ≡ ladder (top - l) l ++ s
@@ -289,13 +293,15 @@ chain-loop-o-again-then-o-eq-COMPARISONS t c =
     let r = c .in-Continue-right .ensures tt in
     let b = found-between (c .loop-o .from) (c .args .top) (c .token-operator .result) (c .in-Some .o) (sym (c .joining .ensures) ∙ c .in-Some .is) in
     let g : operatorOf (tok (c .peek-t .result .token)) ≡ Some (c .in-Some .o) = sym (c .token-operator .ensures) ∙ b .0 in
-    let lt = p .forward (found operatorOf refl (tok (c .peek-t .result .token)) (c .in-Some .o) g) in
-    (omega (arith, b .2, c .if-o-eq-COMPARISONS .taken), placed (c .add-left .ensures .after) (c .add-left .ensures .value) (record {
-      forward = omega (arith, lt, r .forward, i .1 .forward);
-      within = r .within;
-      few = omega (arith, lt, r .few, i .1 .few);
-      turns = λ s vs. i .1 .turns s vs ∙ climbing (c .peek-t .ensures) (c .loop-o .from) (c .args .top) (c .token-operator .result) (c .in-Some .o) (c .token-operator .ensures) (sym (c .joining .ensures) ∙ c .in-Some .is) s _ ∙ r .turns _ _ ∙ done build _ _ _ _ _ ∙ retold _ _ _ _ _ _ _ refl (sym (c .max .ensures)) ∙ restacked _ _ _ (again-comparison (c .in-Some .o .level) (c .args .top) s (c .if-o-eq-COMPARISONS .taken));
-    }))
+    let lt = p .forward (found operatorOf refl (tok (c .peek-t .result .token)) (c .in-Some .o) g) in (
+      omega (arith, b .2, c .if-o-eq-COMPARISONS .taken),
+      placed (c .add-left .ensures .after) (c .add-left .ensures .value) (record {
+        forward = omega (arith, lt, r .forward, i .1 .forward);
+        within = r .within;
+        few = omega (arith, lt, r .few, i .1 .few);
+        turns = λ s vs. i .1 .turns s vs ∙ climbing (c .peek-t .ensures) (c .loop-o .from) (c .args .top) (c .token-operator .result) (c .in-Some .o) (c .token-operator .ensures) (sym (c .joining .ensures) ∙ c .in-Some .is) s _ ∙ r .turns _ _ ∙ done build _ _ _ _ _ ∙ retold _ _ _ _ _ _ _ refl (sym (c .max .ensures)) ∙ restacked _ _ _ (again-comparison (c .in-Some .o .level) (c .args .top) s (c .if-o-eq-COMPARISONS .taken));
+      }),
+    )
 
 pub chain-loop-o-again : need.chain-loop-o-again
 chain-loop-o-again t c =
@@ -304,13 +310,15 @@ chain-loop-o-again t c =
     let r = c .in-Continue-right .ensures tt in
     let b = found-between (c .loop-o .from) (c .args .top) (c .token-operator .result) (c .in-Some .o) (sym (c .joining .ensures) ∙ c .in-Some .is) in
     let g : operatorOf (tok (c .peek-t .result .token)) ≡ Some (c .in-Some .o) = sym (c .token-operator .ensures) ∙ b .0 in
-    let lt = p .forward (found operatorOf refl (tok (c .peek-t .result .token)) (c .in-Some .o) g) in
-    (omega (arith, b .2), placed (c .add-left .ensures .after) (c .add-left .ensures .value) (record {
-      forward = omega (arith, lt, r .forward, i .1 .forward);
-      within = r .within;
-      few = omega (arith, lt, r .few, i .1 .few);
-      turns = λ s vs. i .1 .turns s vs ∙ climbing (c .peek-t .ensures) (c .loop-o .from) (c .args .top) (c .token-operator .result) (c .in-Some .o) (c .token-operator .ensures) (sym (c .joining .ensures) ∙ c .in-Some .is) s _ ∙ r .turns _ _ ∙ done build _ _ _ _ _ ∙ retold _ _ _ _ _ _ _ refl (sym (c .max .ensures)) ∙ restacked _ _ _ (again-other (c .in-Some .o .level) (c .args .top) s (c .if-o-eq-COMPARISONS .left) (b .2));
-    }))
+    let lt = p .forward (found operatorOf refl (tok (c .peek-t .result .token)) (c .in-Some .o) g) in (
+      omega (arith, b .2),
+      placed (c .add-left .ensures .after) (c .add-left .ensures .value) (record {
+        forward = omega (arith, lt, r .forward, i .1 .forward);
+        within = r .within;
+        few = omega (arith, lt, r .few, i .1 .few);
+        turns = λ s vs. i .1 .turns s vs ∙ climbing (c .peek-t .ensures) (c .loop-o .from) (c .args .top) (c .token-operator .result) (c .in-Some .o) (c .token-operator .ensures) (sym (c .joining .ensures) ∙ c .in-Some .is) s _ ∙ r .turns _ _ ∙ done build _ _ _ _ _ ∙ retold _ _ _ _ _ _ _ refl (sym (c .max .ensures)) ∙ restacked _ _ _ (again-other (c .in-Some .o .level) (c .args .top) s (c .if-o-eq-COMPARISONS .left) (b .2));
+      }),
+    )
 
 pub operand-returns-in-Symbol : need.operand-returns-in-Symbol
 operand-returns-in-Symbol t c =
@@ -325,18 +333,20 @@ pub operand-returns : need.operand-returns
 operand-returns t c =
     let p = c .peek-t .ensures in
     let lt : c .args .at < c .peek-t .result .next =
-      elim (c .match-t .came) [
-        operand-in-Numeral w ↦ beyond p (ap tok (w .in-Numeral .is)) refl
+    elim (c .match-t .came) [
+      | operand-in-Numeral w ↦ beyond p (ap tok (w .in-Numeral .is)) refl
       | operand-in-Variable w ↦ beyond p (ap tok (w .in-Variable .is)) refl
-      | operand-in-Word w ↦ beyond p (ap tok (w .in-Word .is)) refl ] in
+      | operand-in-Word w ↦ beyond p (ap tok (w .in-Word .is)) refl
+    ] in
     joins _ (c .subsets .result) (placed (c .add-d .ensures .after) (c .add-d .ensures .value) (record {
       forward = p .after;
       within = p .within;
       few = omega (arith, lt);
       turns = λ s vs. elim (c .match-t .came) [
-        operand-in-Numeral w ↦ arm p (ap tok (w .in-Numeral .is)) _ _ ∙ retold _ _ _ _ _ _ _ (sym (w .leaf-is)) refl
-      | operand-in-Variable w ↦ arm p (ap tok (w .in-Variable .is)) _ _ ∙ retold _ _ _ _ _ _ _ (sym (w .leaf-is)) refl
-      | operand-in-Word w ↦ arm p (ap tok (w .in-Word .is)) _ _ ∙ retold _ _ _ _ _ _ _ (sym (w .leaf-is)) refl ];
+        | operand-in-Numeral w ↦ arm p (ap tok (w .in-Numeral .is)) _ _ ∙ retold _ _ _ _ _ _ _ (sym (w .leaf-is)) refl
+        | operand-in-Variable w ↦ arm p (ap tok (w .in-Variable .is)) _ _ ∙ retold _ _ _ _ _ _ _ (sym (w .leaf-is)) refl
+        | operand-in-Word w ↦ arm p (ap tok (w .in-Word .is)) _ _ ∙ retold _ _ _ _ _ _ _ (sym (w .leaf-is)) refl
+      ];
     })) (c .subsets .ensures)
 
 pub opened-returns-in-Break-d : need.opened-returns-in-Break-d
@@ -394,9 +404,10 @@ function-returns t c =
     let h = c .in-Continue-d .ensures tt in
     let z = c .in-Continue-next .ensures tt in
     let k : applied (c .args .f) (c .in-Continue-d .d .root) ≡ c .match-f .construct =
-      elim (c .match-f .came) [
-        function-in-Abs w ↦ ap (λ f. applied f (c .in-Continue-d .d .root)) (w .in-Abs .is) ∙ sym (w .construct-is)
-      | function-in-Over w ↦ ap (λ f. applied f (c .in-Continue-d .d .root)) (w .in-Over .is) ∙ sym (w .construct-is) ] in
+    elim (c .match-f .came) [
+      | function-in-Abs w ↦ ap (λ f. applied f (c .in-Continue-d .d .root)) (w .in-Abs .is) ∙ sym (w .construct-is)
+      | function-in-Over w ↦ ap (λ f. applied f (c .in-Continue-d .d .root)) (w .in-Over .is) ∙ sym (w .construct-is)
+    ] in
     joins _ (c .subsets .result) (placed (c .add-d .ensures .after) (c .add-d .ensures .value) (record {
       forward = omega (arith, o .1, h .forward, z .1);
       within = z .0 .within;

@@ -28,10 +28,14 @@ returns-in-Some c = λ g a.
     let q = c .peek-c .ensures in
     let n = number-is _ _ (sym (c .number-of .ensures) ∙ c .in-Some .is) in
     let e : is Colon (tok (c .peek-c .result .token)) ≡ false = sym (c .is-symbol .ensures) ∙ c .if-is-symbol .left in
-    record { forward = omega arith; within = c .pre; turns = λ s st.
-        arm p n _ st
-        ∙ alike q _ st _ _ (λ _. refl) (rw e refl)
-        ∙ sym (arm p n _ st) }
+    record {
+      forward = omega arith;
+      within = c .pre;
+      turns = λ s st.
+          arm p n _ st
+          ∙ alike q _ st _ _ (λ _. refl) (rw e refl)
+          ∙ sym (arm p n _ st);
+    }
 
 pub returns-then-not-is-symbol : need.returns-then-not-is-symbol
 returns-then-not-is-symbol c = λ g a.
@@ -45,10 +49,14 @@ returns-in-rest-number-of c = λ g a.
     let e : is Minus (tok (c .peek-t .result .token)) ≡ true = sym (c .is-symbol-2 .ensures) ∙ c .if-not-is-symbol .left in
     let m = symbol-is Minus _ e in
     let n : numberOf (tok (c .peek-u .result .token)) ≡ None = sym (c .number-of-2 .ensures) ∙ c .in-rest-number-of .is in
-    record { forward = omega arith; within = c .pre; turns = λ s st.
-        arm p m _ st
-        ∙ alike (c .peek-u .ensures) _ st _ _ (λ _. refl) (rw n refl)
-        ∙ sym (arm p m _ st) }
+    record {
+      forward = omega arith;
+      within = c .pre;
+      turns = λ s st.
+          arm p m _ st
+          ∙ alike (c .peek-u .ensures) _ st _ _ (λ _. refl) (rw n refl)
+          ∙ sym (arm p m _ st);
+    }
 
 pub returns-then-is-symbol-2 : need.returns-then-is-symbol-2
 returns-then-is-symbol-2 c = λ g a.
@@ -69,8 +77,12 @@ returns c = λ g a.
     let m = symbol-is Minus _ e in
     let n = number-is _ _ (sym (c .number-of-2 .ensures) ∙ c .in-Some-number-of .is) in
     let k : is Colon (tok (c .peek-c-2 .result .token)) ≡ false = sym (c .is-symbol-3 .ensures) ∙ c .if-is-symbol-2 .left in
-    record { forward = omega arith; within = c .pre; turns = λ s st.
-        arm p m _ st
-        ∙ arm u n _ st
-        ∙ alike q _ st _ _ (λ _. refl) (rw k refl)
-        ∙ sym (arm p m _ st ∙ arm u n _ st) }
+    record {
+      forward = omega arith;
+      within = c .pre;
+      turns = λ s st.
+          arm p m _ st
+          ∙ arm u n _ st
+          ∙ alike q _ st _ _ (λ _. refl) (rw k refl)
+          ∙ sym (arm p m _ st ∙ arm u n _ st);
+    }

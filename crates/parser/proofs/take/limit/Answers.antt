@@ -20,8 +20,8 @@ returns-in-Break-size c =
     let n : numberOf t ≡ None = sym (c .number-of .ensures) ∙ c .in-rest .is in
     let e : is Minus t ≡ true = sym (c .is-symbol .ensures) ∙ c .if-is-symbol .taken in
     rw (x .1, x .2) (λ ed s st.
-      turn (c .peek-t .ensures) (symbol-some Minus t e) _ st (boundMinus ed ∷ s) st (λ i. either (n i) (λ k. moved (follows ed (pos k) s) st) (when (e i) (boundMinus ed ∷ s) st))
-      ∙ missed (c .in-Break-size .ensures tt) _ _ (λ _ _ _. refl) (λ _ _. refl) st)
+    turn (c .peek-t .ensures) (symbol-some Minus t e) _ st (boundMinus ed ∷ s) st (λ i. either (n i) (λ k. moved (follows ed (pos k) s) st) (when (e i) (boundMinus ed ∷ s) st))
+    ∙ missed (c .in-Break-size .ensures tt) _ _ (λ _ _ _. refl) (λ _ _. refl) st)
 
 pub returns-in-Some : need.returns-in-Some
 returns-in-Some c =
@@ -39,9 +39,13 @@ returns-in-Continue-size c =
     let e : is Minus t ≡ true = sym (c .is-symbol .ensures) ∙ c .if-is-symbol .taken in
     let h = c .in-Continue-size .ensures tt in
     let some = symbol-some Minus t e in
-    record { forward = omega (arith, p .forward some, h .forward); within = h .within; turns = λ ed s st.
-      turn p some _ st (boundMinus ed ∷ s) st (λ i. either (n i) (λ k. moved (follows ed (pos k) s) st) (when (e i) (boundMinus ed ∷ s) st))
-      ∙ took-it h _ (λ k _. follows ed (negℤ (pos k)) s) (λ _ _ _. refl) st }
+    record {
+      forward = omega (arith, p .forward some, h .forward);
+      within = h .within;
+      turns = λ ed s st.
+          turn p some _ st (boundMinus ed ∷ s) st (λ i. either (n i) (λ k. moved (follows ed (pos k) s) st) (when (e i) (boundMinus ed ∷ s) st))
+          ∙ took-it h _ (λ k _. follows ed (negℤ (pos k)) s) (λ _ _ _. refl) st;
+    }
 
 pub returns-else-is-symbol : need.returns-else-is-symbol
 returns-else-is-symbol c =
