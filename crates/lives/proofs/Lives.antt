@@ -1,6 +1,6 @@
 -- The theorem of lives.
 use mathlib.Core.Path.{_≡_, refl, sym, ap, subst, _∙_}
-use mathlib.Core.List.{List, _∷_}
+use mathlib.Core.List.{List, [], _∷_, _++_}
 use Prim.Native.Nat.{ℕ, _≤_}
 use lib.IntN.{ℤ}
 use lib.ListN.{length}
@@ -13,8 +13,8 @@ use Rattle.coverage.specs.Axes.{Coordinates, Inside}
 use Rattle.lives.specs.Unit.{Standing, State, SwitchedOn, standing, cellsOf}
 use Rattle.lives.specs.Entries.{entry}
 use Rattle.lives.specs.Calls.{Areas, Answered, AreasAfter, Call, run, Step, answered, runSays}
-use Rattle.lives.specs.Life.{Life, Checked, Stands, lastCheck}
-use Rattle.lives.specs.Theorem.{HoldsItsText, PlanHolds, RightlyAnswered, LongEnough, entryAt, AnsweredEarlier, EveryLifeKeepsItsPromises}
+use Rattle.lives.specs.Life.{Life, begins, goesOn, Led, Checked, Stands, lastCheck}
+use Rattle.lives.specs.Theorem.{HoldsItsText, PlanHolds, RightlyAnswered, LongEnough, entryAt, AnsweredEarlier, EveryLifeKeepsItsPromises, EveryRunKeepsItsPromises}
 use Rattle.lives.proofs.Edits.{none-some}
 use Rattle.lives.proofs.Shelves.{Grows, grows-on}
 use Rattle.lives.proofs.Steps.{step-grows, life-lawful, since, last-step, refused-changes-nothing}
@@ -101,3 +101,18 @@ every-life-keeps-its-promises first on past now life = record {
   };
   refused-call-changes-nothing = λ call then h e. refused-changes-nothing now then call h e;
 }
+
+pub every-run-keeps-its-promises : EveryRunKeepsItsPromises
+every-run-keeps-its-promises now then p before after r h first on past life = every-life-keeps-its-promises first on past now life .each-run-keeps-its-promises p before after r then h
+
+-- ---- lives go on
+
+pub led-on : (first now then : State) (call : Call) → Led first now → Step now call then → Led first then
+led-on first now then call l h = (call ∷ l .0, goesOn call (l .1) h)
+
+pub joined : (first middle now : State) (older newer : List Call) → Life first older middle → Life middle newer now → Life first (newer ++ older) now
+joined first middle now older [] l begins = l
+joined first middle now older (c ∷ newer) l (goesOn {before = t} call k h) = goesOn c (joined first middle t older newer l k) h
+
+pub led-through : (first middle now : State) → Led first middle → Led middle now → Led first now
+led-through first middle now l k = (k .0 ++ l .0, joined first middle now (l .0) (k .0) (l .1) (k .1))

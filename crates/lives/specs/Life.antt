@@ -18,6 +18,10 @@ pub data Life (first : State) : List Call → State → Type 0 where
   begins : Life first [] first
   goesOn : {past : List Call} {before : State} {after : State} (call : Call) → Life first past before → Step before call after → Life first (call ∷ past) after
 
+-- some life led from one state to another
+abbrev pub Led : State → State → Type 0
+Led first now = (past : List Call) × Life first past now
+
 -- a text that was checked, and what was announced for it
 pub record Checked : Type 0 where
   pub text : List ℕ

@@ -140,6 +140,10 @@ EveryLifeFrom first = (past : List Call) (now : State) → Life first past now �
 abbrev pub EveryLifeKeepsItsPromises : Type 0
 EveryLifeKeepsItsPromises = (first : State) → SwitchedOn first → EveryLifeFrom first
 
--- every life that led here, for this very run
+-- every life that led here has this very run right
 abbrev pub EveryLifeUpTo : State → ℕ → Areas → Result Answered Refusal → Areas → Type 0
 EveryLifeUpTo now p before r after = (first : State) → SwitchedOn first → (past : List Call) → Life first past now → RunKeepsItsPromises past (now .shelf) p before r after
+
+-- the theorem as one run has it: whatever life led to it
+abbrev pub EveryRunKeepsItsPromises : Type 0
+EveryRunKeepsItsPromises = (now then : State) (p : ℕ) (before after : Areas) (r : Result Answered Refusal) → Step now (run p before r after) then → EveryLifeUpTo now p before r after

@@ -4,7 +4,7 @@ ghost use Rattle.lives.specs.Answers.{EveryCallHasOneAnswer};
 ghost use Rattle.lives.specs.Derived.{TextsSayWhatTheGrammarDerives};
 ghost use Rattle.lives.specs.Example.{SuchALifeIsLed};
 ghost use Rattle.lives.specs.Refusals.{RefusalsComeInTurn};
-ghost use Rattle.lives.specs.Theorem.{EveryLifeKeepsItsPromises};
+ghost use Rattle.lives.specs.Theorem.{EveryLifeKeepsItsPromises, EveryRunKeepsItsPromises};
 ghost use Rattle.lives.specs.Worked.{WorkedCasesOnTheirTexts};
 
 /// A text says a query just where the grammar derives that query from its tokens, within the limits; else it
@@ -24,6 +24,11 @@ pub fn every_call_has_one_answer()
 /// changes nothing.
 pub fn every_life_keeps_its_promises()
     ensures { λ r. ⌜ EveryLifeKeepsItsPromises ⌝ }
+{}
+
+/// The same of one run: whatever life from a unit just switched on led to it, its answer is right.
+pub fn every_run_keeps_its_promises()
+    ensures { λ r. ⌜ EveryRunKeepsItsPromises ⌝ }
 {}
 
 /// The worked cases over a roof of two rows, from the bytes of their texts to cells, reads and refusals.
