@@ -98,8 +98,8 @@ refused-means text p c e =
     let v = table.judged text [] in
     let stuck : v ≡ refused p = also-refused p (readAs text) v e (agree mean build (length text) query [] (state [] 0 []) (toks text 0)) in
     let is : table.answered text [] ≡ Err (NoQuery p) =
-          ap (λ b. cond b (Err TooLong) (table.unlessBad (firstBad (toks text 0)) (table.measured (table.outcome v)))) (le-ltb longestText (length text) (c .short))
-          ∙ (ap (λ o. table.unlessBad o (table.measured (table.outcome v))) (c .tokens) ∙ ap (λ x. table.measured (table.outcome x)) stuck) in
+    ap (λ b. cond b (Err TooLong) (table.unlessBad (firstBad (toks text 0)) (table.measured (table.outcome v)))) (le-ltb longestText (length text) (c .short))
+    ∙ (ap (λ o. table.unlessBad o (table.measured (table.outcome v))) (c .tokens) ∙ ap (λ x. table.measured (table.outcome x)) stuck) in
     subst (Meant text) is (meant text [])
 
 read-means : (text : List ℕ) → Clean text → (v : Verdict (List Yield)) → readAs text ≡ v → Means text (measured v)
@@ -136,9 +136,10 @@ one-query text q other depth d h k =
     let y = b .verdict in
     let yields : a .yield ≡ b .yield = cc in
     let bindings : q .bindings ≡ other .bindings = cc in
-    let body : q .body ≡ other .body = a .body ∙ (ap (λ (z : Yield). z .tree) yields ∙ sym (b .body)) in
-    (same-query q other bindings body,
-     a .deep ∙ (ap (λ (z : Yield). z .inner + 1) yields ∙ sym (b .deep)))
+    let body : q .body ≡ other .body = a .body ∙ (ap (λ (z : Yield). z .tree) yields ∙ sym (b .body)) in (
+      same-query q other bindings body,
+      a .deep ∙ (ap (λ (z : Yield). z .inner + 1) yields ∙ sym (b .deep)),
+    )
 
 pub texts-say-what-the-grammar-derives : TextsSayWhatTheGrammarDerives
 texts-say-what-the-grammar-derives = record { each-answer-is-meant = each-means; what-is-derived-is-said = derived-said; one-query-at-most = one-query }

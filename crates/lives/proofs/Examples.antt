@@ -103,6 +103,7 @@ such-a-life-is-led = record {
       goesOn {before = whole} {after = whole} _ (
       goesOn {before = whole} {after = whole} _ (
       goesOn {before = whole} {after = whole} _ (
+      goesOn {before = whole} {after = whole} _ (
       goesOn {before = added} {after = whole} _ (
       goesOn {before = added} {after = added} _ (
       goesOn {before = refused} {after = added} _ (
@@ -123,6 +124,7 @@ such-a-life-is-led = record {
       (refl, record { cells-then-rest = refl; work-as-long = refl }, refl))
       (refl, refl))
       (refl, record { cells-then-rest = refl; work-as-long = refl }, refl))
+      (refl, refl, refl))
       (refl, refl, refl))
       (refl, record { cells-then-rest = refl; work-as-long = refl }, refl);
 }

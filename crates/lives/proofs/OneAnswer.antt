@@ -14,7 +14,7 @@ use Rattle.lives.specs.Shelves.{describes, looks}
 use Rattle.lives.specs.Unit.{Standing, cellsOf, standing}
 use Rattle.lives.specs.Entries.{entry}
 use Rattle.lives.specs.Calls.{Areas, Answered, AreasAfter, afterCheck, afterStrip, checkSays, lookSays, runSays, stripSays}
-use Rattle.lives.specs.Answers.{EveryCallHasOneAnswer}
+use Rattle.lives.specs.OneAnswer.{EveryCallHasOneAnswer}
 
 -- areas such as a run leaves
 areas-after : (m : List Coverage) (o : Option Standing) (before : Areas) (r : Result Answered Refusal) → (after : Areas) × AreasAfter m o before r after

@@ -25,6 +25,10 @@ switchedOn = record { shelf = blank; plans = λ p. None }
 abbrev pub areas : List Cell → Areas
 areas cs = record { work = replicate 256 (pos 0); answer = cs }
 
+-- areas that are both too short for the text of plan 1
+abbrev pub tooSmall : Areas
+tooSmall = record { work = replicate 255 (pos 0); answer = replicate 5 (entry None) }
+
 -- an entry with a value, and a null
 abbrev pub known : ℕ → Cell
 known v = entry (Some (pos v))
@@ -37,11 +41,13 @@ abbrev pub lent : List Cell
 lent = replicate 7 (known 9)
 
 -- the calls in their order: strip 1 comes, and again; a text is checked into plan 1 and run; plan 2 is empty;
--- a text goes into plan 2, its answer is null until strip 0 comes; an area of five entries is too short
+-- a text goes into plan 2, its answer is null until strip 0 comes; too short a work area is told before too short
+-- an answer area; then plan 1 is answered again
 abbrev pub calls : List Call
 calls =
     run 1 (areas lent) (Ok (record { cells = 6; reads = 6 })) (areas (known 11 ∷ known 21 ∷ known 31 ∷ known 41 ∷ known 51 ∷ known 61 ∷ known 9 ∷ []))
     ∷ run 1 (areas (replicate 5 null)) (Err (tooShort 6)) (areas (replicate 5 null))
+    ∷ run 1 tooSmall (Err (tooShort 256)) tooSmall
     ∷ run 2 (areas lent) (Ok (record { cells = 1; reads = 6 })) (areas (known 210 ∷ replicate 6 (known 9)))
     ∷ strip 0 0 strip0 (Ok tt)
     ∷ run 2 (areas lent) (Ok (record { cells = 1; reads = 6 })) (areas (null ∷ replicate 6 (known 9)))

@@ -4,7 +4,7 @@ pub mod Shelves
 pub mod Unit
 pub mod Entries
 pub mod Calls
-pub mod Answers
+pub mod OneAnswer
 pub mod Life
 pub mod Theorem
 pub mod Worked

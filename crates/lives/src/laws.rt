@@ -1,6 +1,6 @@
 // The theorem of lives, and cases that show what it speaks of. The functions do nothing and answer nothing:
 // what each says is its contract.
-ghost use Rattle.lives.specs.Answers.{EveryCallHasOneAnswer};
+ghost use Rattle.lives.specs.OneAnswer.{EveryCallHasOneAnswer};
 ghost use Rattle.lives.specs.Derived.{TextsSayWhatTheGrammarDerives};
 ghost use Rattle.lives.specs.Example.{SuchALifeIsLed};
 ghost use Rattle.lives.specs.Refusals.{RefusalsComeInTurn};
@@ -41,7 +41,7 @@ pub fn refusals_come_in_turn()
     ensures { λ r. ⌜ RefusalsComeInTurn ⌝ }
 {}
 
-/// A life of twelve calls, accepted and refused, over that roof.
+/// A life of thirteen calls, accepted and refused, over that roof.
 pub fn such_a_life_is_led()
     ensures { λ r. ⌜ SuchALifeIsLed ⌝ }
 {}
