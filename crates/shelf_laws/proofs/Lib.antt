@@ -2,3 +2,5 @@ pub mod Pastes
 pub mod Cells
 pub mod Grids
 pub mod Makings
+pub mod Products
+pub mod Ramps

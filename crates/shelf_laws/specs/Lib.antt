@@ -1,2 +1,5 @@
 pub mod Making
 pub mod Grid
+pub mod Single
+pub mod ByteGrid
+pub mod Ramp
