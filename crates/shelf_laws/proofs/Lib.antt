@@ -4,3 +4,5 @@ pub mod Grids
 pub mod Makings
 pub mod Products
 pub mod Ramps
+pub mod Singles
+pub mod ByteGrids

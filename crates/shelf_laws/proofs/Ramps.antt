@@ -18,13 +18,22 @@ use Rattle.std.proofs.shelf.Signed.{ints, clamps, toZ-ofZ}
 use Rattle.coverage.specs.declared.axis.Axis.{Axis}
 use Rattle.coverage.specs.declared.axis.Axis.the-variants.{X}
 use Rattle.coverage.specs.declared.range.Range.{Range}
-use Rattle.coverage.specs.Axes.{Coordinates, Extents, Holds, Inside, Ordered, axes, onAxis}
-use Rattle.coverage.specs.Limits.{axisBounded, bounded}
-use Rattle.coverage.proofs.Bools.{and-left, and-right, by-test}
-use Rattle.coverage.proofs.Bounds.{bounded-ordered}
-use Rattle.coverage.proofs.Points.{each, on-holds}
-use Rattle.shelf_laws.specs.Ramp.{AtCorner, AtEnd, Gradient, SpanIsExact, allMild, isMild, isNear, least, most, rampSpan, rampValue, rise, riseAt, rises, sumOver}
+use Rattle.coverage.specs.declared.domain.Domain.{Domain}
+use Rattle.coverage.specs.declared.description.Description.{Description}
+use Rattle.coverage.specs.Axes.{Coordinates, Extents, Holds, Inside, axes, cells, extents, sameZ}
+use Rattle.coverage.specs.Kinds.{Within, high, low}
+use Rattle.coverage.specs.Limits.{axisBounded, bounded, few, isName}
+use Rattle.coverage.proofs.Bools.{and-left, and-right, and-both, by-test}
+use Rattle.coverage.proofs.Points.{each, inside-from}
+use Rattle.coverage.proofs.Standing.{sameZ-true, sameZ-same}
+use Rattle.shelf.specs.declared.fault.MakingFault.the-variants.{NoName, OutOfBounds, ManyCells}
+use Rattle.shelf.specs.Meaning.{settled, settledOn}
+use Rattle.shelf.specs.Laws.{Lawful}
+use Rattle.shelf_laws.specs.Single.{Asked, fixedOk}
+use Rattle.shelf_laws.specs.Ramp.{AtCorner, AtEnd, Gradient, SpanIsExact, allMild, isMild, isNear, least, most, rampCells, rampFault, rampKind, rampMeaning, rampOk, rampSpan, rampValue, rise, riseAt, rises, sumOver}
 use Rattle.shelf_laws.proofs.Products.{Between, Small, fits-64, mul-between, mul-small}
+use Rattle.shelf_laws.proofs.Makings.{Allowed, allowed-describable, cond-none}
+use Rattle.shelf_laws.proofs.Singles.{asked-all, fixed-lawful}
 
 -- ---- small numbers
 
@@ -175,3 +184,105 @@ span-exact g offset d h = record {
   lowest-reached = at-corner g offset d (least d g) (λ a. low-end (d a) (g a) (each-bounded d h a));
   highest-reached = at-corner g offset d (most d g) (λ a. high-end (d a) (g a) (each-bounded d h a));
 }
+
+-- ---- the coverage
+
+settled-rise : (r : Option Range) (s v : ℤ) → rise r s (settledOn r v) ≡ rise r s v
+settled-rise None s v = refl
+settled-rise (Some r) s v = refl
+
+-- a point settled on a domain has the same cell
+pub settled-value : (g : Gradient) (offset : ℤ) (d : Extents) (p : Coordinates) → rampValue g offset d (settled d p) ≡ rampValue g offset d p
+settled-value g offset d p = ap (λ v. offset +ℤ v) (sum-alike (riseAt d g (settled d p)) (riseAt d g p) (λ a. settled-rise (d a) (g a) (p a)) axes)
+
+-- what holds of a ramp that has a coverage
+pub record Sloped (a : Description) (g : Gradient) (offset : ℤ) : Type 0 where
+  pub mild : allMild g ≡ true
+  pub near : isNear offset ≡ true
+  pub lowest : low (a .kind) ≡ rampSpan g offset (extents (a .domain)) .lo
+  pub highest : high (a .kind) ≡ rampSpan g offset (extents (a .domain)) .hi
+
+pub sloped-from : (o : Option Description) (a : Description) (g : Gradient) (offset : ℤ) → o ≡ Some a → rampOk o g offset ≡ true → Sloped a g offset
+sloped-from o a g offset is ok =
+    let h = ap (λ x. rampOk x g offset) (sym is) ∙ ok in
+    let i = and-right (allMild g) _ h in
+    let j = and-right (isNear offset) _ i in
+    record {
+      mild = and-left (allMild g) _ h;
+      near = and-left (isNear offset) _ i;
+      lowest = sameZ-true _ _ (and-left (sameZ (low (a .kind)) (rampSpan g offset (extents (a .domain)) .lo)) _ j);
+      highest = sameZ-true _ _ (and-right (sameZ (low (a .kind)) (rampSpan g offset (extents (a .domain)) .lo)) _ j);
+    }
+
+pub ramp-lawful : (o : Option Description) (g : Gradient) (offset : ℤ) → fixedOk o ≡ true → rampOk o g offset ≡ true → Lawful (rampMeaning o g offset)
+ramp-lawful o g offset h ok =
+    fixed-lawful o (rampCells g offset) h
+    (λ a is p e.
+      let d = extents (a .domain) in
+      let s = sloped-from o a g offset is ok in
+      let b = span-holds g offset d p (inside-from d p e) in
+      subst (λ v. Within (a .kind) (Some v)) (sym (settled-value g offset d p))
+      (subst (λ v. v ≤ℤ rampValue g offset d p) (sym (s .lowest)) (b .0), subst (λ v. rampValue g offset d p ≤ℤ v) (sym (s .highest)) (b .1)))
+
+-- every cell inside is small
+pub value-small : (g : Gradient) (offset : ℤ) (d : Extents) (p : Coordinates) → bounded d ≡ true → allMild g ≡ true → isNear offset ≡ true → Inside d p → Small 2000000000 (rampValue g offset d p)
+value-small g offset d p b m n h = total-small (riseAt d g p) offset (λ a. rise-small (d a) (g a) (p a) (each-bounded d b a) (h a) (each-mild g m a)) n
+
+-- ---- making
+
+-- what holds of an allowed ramp
+pub record AllowedRamp (name : List ℕ) (d : Extents) (g : Gradient) (offset : ℤ) : Type 0 where
+  pub named : isName name ≡ true
+  pub axes-bounded : bounded d ≡ true
+  pub mild : allMild g ≡ true
+  pub near : isNear offset ≡ true
+  pub cells-few : few d ≡ true
+
+pub ramp-allowed : (name : List ℕ) (d : Extents) (g : Gradient) (offset : ℤ) → rampFault name d g offset ≡ None → AllowedRamp name d g offset
+ramp-allowed name d g offset e =
+    let a = cond-none (isName name) _ NoName e in
+    let b = cond-none (bounded d && (allMild g && isNear offset)) _ OutOfBounds (a .1) in
+    let c = cond-none (few d) None ManyCells (b .1) in
+    let s = and-right (bounded d) _ (b .0) in
+    record {
+      named = a .0;
+      axes-bounded = and-left (bounded d) _ (b .0);
+      mild = and-left (allMild g) _ s;
+      near = and-right (allMild g) _ s;
+      cells-few = c .0;
+    }
+
+-- the span has its ends in order, far within 32 bits
+span-allowed : (name : List ℕ) (d : Extents) (g : Gradient) (offset : ℤ) → AllowedRamp name d g offset → Allowed name d (rampKind g offset d) (cells d)
+span-allowed name d g offset h =
+    let small = λ (a : Axis). rises-small (d a) (g a) (each-bounded d (h .axes-bounded) a) (each-mild g (h .mild) a) in
+    let lo = total-small (least d g) offset (λ a. small a .0) (h .near) in
+    let hi = total-small (most d g) offset (λ a. small a .1) (h .near) in
+    let corner = span-exact g offset d (h .axes-bounded) .lowest-reached in
+    let in-order = span-holds g offset d (corner .corner) (corner .inside) in
+    let k = ends-narrow (rampSpan g offset d .lo) (rampSpan g offset d .hi) (rampValue g offset d (corner .corner)) (in-order .0) (in-order .1) lo hi in
+    record {
+      named = h .named;
+      axes-bounded = h .axes-bounded;
+      kind-ordered = k .0;
+      kind-narrow = and-both _ _ (k .1) (k .2);
+      cells-few = h .cells-few;
+      long = refl;
+    }
+  where
+    test : (x y : ℤ) → x ≤ℤ y → leZ x y ≡ true
+    test x y h = grind (arith, ints)
+    ends-narrow : (x y v : ℤ) → x ≤ℤ v → v ≤ℤ y → Small 2000000000 x → Small 2000000000 y → (leZ x y ≡ true) × (leZ (negsuc 2147483646) x ≡ true) × (leZ y (pos 2147483647) ≡ true)
+    ends-narrow x y v p q a b = (test x y (omega (arith, ints)), test (negsuc 2147483646) x (omega (arith, ints)), test y (pos 2147483647) (omega (arith, ints)))
+
+-- an allowed making keeps the laws of the ramp
+pub ramp-kept : (name : List ℕ) (d : Domain) (g : Gradient) (offset : ℤ) (o : Option Description) → AllowedRamp name (extents d) g offset →
+    Asked (isName name) name d (rampKind g offset (extents d)) false o → (fixedOk o ≡ true) × (rampOk o g offset ≡ true)
+ramp-kept name d g offset o h asked =
+    let k = rampKind g offset (extents d) in
+    asked-all (λ x. (fixedOk x ≡ true) × (rampOk x g offset ≡ true)) name d k false o (h .named) asked
+    (λ a s.
+      let span : (f : Range → ℤ) → f (rampSpan g offset (extents d)) ≡ f (rampSpan g offset (extents (a .domain))) = λ f. ap (λ x. f (rampSpan g offset (extents x))) (sym (s .domained)) in
+      (and-both _ _ (allowed-describable name d k (cells (extents d)) a (span-allowed name (extents d) g offset h) (s .named) (s .domained) (s .kinded)) (ap not (s .marked)),
+        and-both _ _ (h .mild) (and-both _ _ (h .near)
+        (and-both _ _ (sameZ-same _ _ (ap low (s .kinded) ∙ span (λ r. r .lo))) (sameZ-same _ _ (ap high (s .kinded) ∙ span (λ r. r .hi)))))))

@@ -1,6 +1,6 @@
 -- The byte grid: one fixed coverage in the caller's bytes, each cell at its number.
 use mathlib.Core.List.{List}
-use mathlib.Core.Bool.{Bool, true, false, cond, not, _&&_}
+use mathlib.Core.Bool.{Bool, true, false, cond, _&&_}
 use Prim.Native.Nat.{ℕ}
 use lib.Dec.{eqb, leb}
 use lib.IntN.{ℤ, pos}
@@ -11,9 +11,9 @@ use Rattle.std.specs.declared.option.Option.the-variants.{Some, None}
 use Rattle.coverage.specs.declared.kind.Kind.{Kind}
 use Rattle.coverage.specs.declared.kind.Kind.the-variants.{Number}
 use Rattle.coverage.specs.declared.description.Description.{Description}
-use Rattle.coverage.specs.Axes.{Extents, cells, extents, insideB, numberAt}
+use Rattle.coverage.specs.Axes.{Extents, cells, insideB, numberAt}
 use Rattle.coverage.specs.Kinds.{high, low}
-use Rattle.coverage.specs.Limits.{bounded, describable, few, isName}
+use Rattle.coverage.specs.Limits.{bounded, few, isName}
 use Rattle.shelf.specs.declared.fault.MakingFault.{MakingFault}
 use Rattle.shelf.specs.declared.fault.MakingFault.the-variants.{NoName, OutOfBounds, ManyCells, WrongLength}
 use Rattle.shelf.specs.Meaning.{Coverage}
@@ -33,14 +33,12 @@ byteCells bs d p = cond (insideB d p) (byteValue (getD bs (numberAt d p) 0)) Non
 abbrev pub byteMeaning : Option Description → List ℕ → List Coverage
 byteMeaning o bs = single o (byteCells bs)
 
--- ---- the laws of the bytes, each a test; they ask nothing where there is no coverage
+-- the kind, where there is a coverage, takes every value of a byte
+abbrev pub takesBytes : Option Description → Bool
+takesBytes None = true
+takesBytes (Some a) = leZ (low (a .kind)) (pos 0) && leZ (pos 254) (high (a .kind))
 
--- the coverage is within the limits and fixed, and its kind takes every value of a byte
-abbrev pub bytesOk : Option Description → Bool
-bytesOk None = true
-bytesOk (Some a) = describable a && (not (a .receives) && (leZ (low (a .kind)) (pos 0) && leZ (pos 254) (high (a .kind))))
-
--- ---- which making is refused: no name; an axis with its ends out of order or out of bounds, or x
+-- which making is refused: no name; an axis with its ends out of order or out of bounds, or x
 -- missing; too many cells; another number of bytes than of cells
 abbrev pub byteGridFault : List ℕ → Extents → ℕ → Option MakingFault
 byteGridFault name d length =

@@ -1,7 +1,7 @@
 -- The ramp: one fixed coverage whose cell is an offset and, for each axis, a slope times the coordinate.
 use mathlib.Core.Path.{_≡_}
 use mathlib.Core.List.{List, [], _∷_}
-use mathlib.Core.Bool.{Bool, true, false, cond, not, _&&_}
+use mathlib.Core.Bool.{Bool, true, false, cond, _&&_}
 use mathlib.Core.Logic.{_⊎_}
 use Prim.Native.Nat.{ℕ}
 use lib.IntN.{ℤ, pos, negsuc, _+ℤ_, _*ℤ_}
@@ -17,7 +17,7 @@ use Rattle.coverage.specs.declared.kind.Kind.the-variants.{Number}
 use Rattle.coverage.specs.declared.description.Description.{Description}
 use Rattle.coverage.specs.Axes.{Coordinates, Extents, Inside, allOver, axes, extents, sameZ}
 use Rattle.coverage.specs.Kinds.{high, low}
-use Rattle.coverage.specs.Limits.{bounded, describable, few, isName}
+use Rattle.coverage.specs.Limits.{bounded, few, isName}
 use Rattle.shelf.specs.declared.fault.MakingFault.{MakingFault}
 use Rattle.shelf.specs.declared.fault.MakingFault.the-variants.{NoName, OutOfBounds, ManyCells}
 use Rattle.shelf.specs.Meaning.{Coverage}
@@ -103,15 +103,14 @@ pub record SpanIsExact (g : Gradient) (offset : ℤ) (d : Extents) : Type 0 wher
 abbrev pub rampKind : Gradient → ℤ → Extents → Kind
 rampKind g offset d = Number (rampSpan g offset d)
 
--- ---- the law of a ramp, a test; it asks nothing where there is no coverage: the coverage is within the
--- limits and fixed, slopes and offset are within theirs, and the kind is the span
+-- where there is a coverage, slopes and offset are within their limits, and its kind is the span
 abbrev pub rampOk : Option Description → Gradient → ℤ → Bool
 rampOk None g offset = true
 rampOk (Some a) g offset =
-    describable a && (not (a .receives) && (allMild g && (isNear offset
-    && (sameZ (low (a .kind)) (rampSpan g offset (extents (a .domain)) .lo) && sameZ (high (a .kind)) (rampSpan g offset (extents (a .domain)) .hi)))))
+    allMild g && (isNear offset
+    && (sameZ (low (a .kind)) (rampSpan g offset (extents (a .domain)) .lo) && sameZ (high (a .kind)) (rampSpan g offset (extents (a .domain)) .hi)))
 
--- ---- which making is refused: no name; an axis with its ends out of order or out of bounds, x missing, a
+-- which making is refused: no name; an axis with its ends out of order or out of bounds, x missing, a
 -- slope or the offset out of bounds; too many cells
 abbrev pub rampFault : List ℕ → Extents → Gradient → ℤ → Option MakingFault
 rampFault name d g offset =

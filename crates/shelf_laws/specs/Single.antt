@@ -2,9 +2,8 @@
 -- answer as far as the description tells.
 use mathlib.Core.Path.{_≡_}
 use mathlib.Core.List.{List, [], _∷_}
-use mathlib.Core.Bool.{Bool, true, false, cond}
-use Prim.Native.Nat.{ℕ}
-use lib.Dec.{eqb}
+use mathlib.Core.Bool.{Bool, true, false, cond, not, _&&_}
+use Prim.Native.Nat.{ℕ, zero, suc}
 use lib.IntN.{ℤ}
 use Rattle.std.specs.declared.option.Option.{Option}
 use Rattle.std.specs.declared.option.Option.the-variants.{Some, None}
@@ -14,7 +13,7 @@ use Rattle.coverage.specs.declared.domain.Domain.{Domain}
 use Rattle.coverage.specs.declared.kind.Kind.{Kind}
 use Rattle.coverage.specs.declared.description.Description.{Description}
 use Rattle.coverage.specs.Axes.{Coordinates, Extents, extents, insideB}
-use Rattle.coverage.specs.Limits.{nameBytes}
+use Rattle.coverage.specs.Limits.{describable, nameBytes}
 use Rattle.shelf.specs.declared.fault.MakingFault.{MakingFault}
 use Rattle.shelf.specs.declared.fault.ShelfFault.{ShelfFault}
 use Rattle.shelf.specs.declared.fault.ShelfFault.the-variants.{Fixed, NoCoverage, Outside}
@@ -31,7 +30,8 @@ single (Some a) cell = (record { about = a; cell = cell (extents (a .domain)) })
 -- the coverage that a call names: it is there, and its number is 0
 abbrev pub held : Option Description → ℕ → ℕ → Result Description ShelfFault
 held None c n = Err (NoCoverage c n)
-held (Some a) c n = cond (eqb c 0) (Ok a) (Err (NoCoverage c n))
+held (Some a) zero n = Ok a
+held (Some a) (suc c) n = Err (NoCoverage (suc c) n)
 
 abbrev pub reachedIn : Result Description ShelfFault → ℕ → Coordinates → Result Description ShelfFault
 reachedIn (Err f) c p = Err f
@@ -49,6 +49,11 @@ fixedIn (Ok a) c n = Fixed c n
 abbrev pub fixedFault : Option Description → ℕ → ℕ → ShelfFault
 fixedFault o c n = fixedIn (held o c n) c n
 
+-- the coverage, where there is one, is within the limits and fixed
+abbrev pub fixedOk : Option Description → Bool
+fixedOk None = true
+fixedOk (Some a) = describable a && not (a .receives)
+
 -- ---- what a making makes
 
 -- a description as it was asked for
@@ -58,10 +63,10 @@ pub record AskedFor (name : List ℕ) (d : Domain) (k : Kind) (receives : Bool) 
   pub kinded : a .kind ≡ k
   pub marked : a .receives ≡ receives
 
--- the description that is given by a making: by the answer of the call before it, the one asked for or none
-abbrev pub Asked : Result (Unit {0}) MakingFault → List ℕ → Domain → Kind → Bool → Option Description → Type 0
-Asked (Ok u) name d k receives o = (a : Description) × (o ≡ Some a) × AskedFor name d k receives a
-Asked (Err f) name d k receives o = o ≡ None
+-- a description that is asked for under a name, or none under what is no name
+abbrev pub Asked : Bool → List ℕ → Domain → Kind → Bool → Option Description → Type 0
+Asked true name d k receives o = (a : Description) × (o ≡ Some a) × AskedFor name d k receives a
+Asked false name d k receives o = o ≡ None
 
 -- one fixed coverage as it was asked for, with these cells
 pub record OneFixed (name : List ℕ) (d : Domain) (k : Kind) (cell : CellsOf) (m : List Coverage) : Type 0 where
