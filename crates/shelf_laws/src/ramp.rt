@@ -42,7 +42,10 @@ fn rises(axis: Option<Range>, slope: i64) -> Range
         Some(range) => {
             let near = slope * range.lo;
             let far = slope * range.hi;
-            Range { lo: near.min(far), hi: near.max(far) }
+            Range {
+                lo: near.min(far),
+                hi: near.max(far),
+            }
         }
         None => Range { lo: 0, hi: 0 },
     }
@@ -70,7 +73,10 @@ pub fn ramp_span(domain: Domain, slopes: Slopes, offset: i64) -> Range
     requires near { ⌜ isNear offset ≡ true ⌝ }
     ensures { λ r. ⌜ r ≡ rampSpan (gradient slopes) offset (extents domain) ⌝ }
 {
-    let mut span = Range { lo: offset, hi: offset };
+    let mut span = Range {
+        lo: offset,
+        hi: offset,
+    };
     for axis in AXES {
         let rises = rises(domain.on(axis), slopes.on(axis));
         span.lo += rises.lo;

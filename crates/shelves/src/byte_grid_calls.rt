@@ -21,7 +21,11 @@ const NULL: u8 = 255;
 fn byte_value(byte: u8) -> Option<i32>
     ensures { λ r. ⌜ r ≡ byteValue byte ⌝ }
 {
-    if byte == NULL { None } else { Some(i32::from(byte)) }
+    if byte == NULL {
+        None
+    } else {
+        Some(i32::from(byte))
+    }
 }
 
 pub impl<'a> Shelf for ByteGrid<'a> as ByteGridShelf {

@@ -30,5 +30,8 @@ pub fn make_byte_grid<'a>(name: &[u8], domain: Domain, bytes: &'a [u8]) -> ByteG
     if check_byte_grid(name, domain, bytes.len()).is_err() {
         return ByteGrid { about: None, bytes };
     }
-    ByteGrid { about: asked(name, domain, BYTES, false), bytes }
+    ByteGrid {
+        about: asked(name, domain, BYTES, false),
+        bytes,
+    }
 }

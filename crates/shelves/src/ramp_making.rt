@@ -16,7 +16,12 @@ use shelf_laws::ramp::is_near;
 use shelf_laws::ramp::ramp_span;
 
 /// The call before the making of a ramp: why it is refused, or nothing.
-pub fn check_ramp(name: &[u8], domain: Domain, slopes: Slopes, offset: i64) -> Result<(), MakingFault>
+pub fn check_ramp(
+    name: &[u8],
+    domain: Domain,
+    slopes: Slopes,
+    offset: i64,
+) -> Result<(), MakingFault>
     ensures { λ r. ⌜ r ≡ answerOf (rampFault (now (name .entry)) (extents domain) (gradient slopes) offset) ⌝ }
 {
     if !is_name(name) {
@@ -38,8 +43,16 @@ pub fn make_ramp(name: &[u8], domain: Domain, slopes: Slopes, offset: i64) -> Ra
     ensures span { λ r. ⌜ (rampFault (now (name .entry)) (extents domain) (gradient slopes) offset ≡ None → SpanIsExact (gradient slopes) offset (extents domain)) ⌝ }
 {
     if check_ramp(name, domain, slopes, offset).is_err() {
-        return Ramp { about: None, slopes, offset };
+        return Ramp {
+            about: None,
+            slopes,
+            offset,
+        };
     }
     let kind = Kind::Number(ramp_span(domain, slopes, offset));
-    Ramp { about: asked(name, domain, kind, false), slopes, offset }
+    Ramp {
+        about: asked(name, domain, kind, false),
+        slopes,
+        offset,
+    }
 }

@@ -35,7 +35,11 @@ pub(crate) fn find_held(about: Option<Description>, name: &[u8]) -> Option<usize
 }
 
 /// The coverage that a call names.
-pub(crate) fn held(about: Option<Description>, coverage: usize, strip: usize) -> Result<Description, ShelfFault>
+pub(crate) fn held(
+    about: Option<Description>,
+    coverage: usize,
+    strip: usize,
+) -> Result<Description, ShelfFault>
     ensures { λ r. ⌜ r ≡ heldAt about coverage strip ⌝ }
 {
     match about {
@@ -45,7 +49,11 @@ pub(crate) fn held(about: Option<Description>, coverage: usize, strip: usize) ->
 }
 
 /// The coverage that a look reaches: the one it names, with the point inside.
-pub(crate) fn reach(about: Option<Description>, coverage: usize, at: Point) -> Result<Description, ShelfFault>
+pub(crate) fn reach(
+    about: Option<Description>,
+    coverage: usize,
+    at: Point,
+) -> Result<Description, ShelfFault>
     ensures { λ r. ⌜ r ≡ reached about coverage (coordinates at) ⌝ }
 {
     let about = held(about, coverage, 0)?;
@@ -70,5 +78,10 @@ pub(crate) fn asked(name: &[u8], domain: Domain, kind: Kind, receives: bool) -> 
     ensures { λ r. ⌜ Asked (isName (now (name .entry))) (now (name .entry)) domain kind receives r ⌝ }
 {
     let name = Name::new(name)?;
-    Some(Description { name, domain, kind, receives })
+    Some(Description {
+        name,
+        domain,
+        kind,
+        receives,
+    })
 }
