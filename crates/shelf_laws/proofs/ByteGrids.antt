@@ -2,13 +2,13 @@
 use mathlib.Core.Path.{_≡_, refl, sym, ap, ap₂, subst, _∙_}
 use mathlib.Core.List.{List}
 use mathlib.Core.Bool.{Bool, true, false, cond, not, _&&_}
-use Prim.Native.Nat.{ℕ, _≤_, _<_}
+use Prim.Native.Nat.{ℕ}
 use native.Mathlib.Omega.{arith}
-use borrow.Author.Tests.{eq-eqb, leb-true, leb-false, le-leb, lt-leb}
+use borrow.Author.Tests.{eq-eqb, leb-true}
 use lib.Dec.{eqb, leb}
-use lib.IntN.{ℤ, pos}
-use lib.ListN.{length, getD}
-use lib.Signed.{leZ, _≤ℤ_}
+use lib.IntN.{pos}
+use lib.ListN.{getD}
+use lib.Signed.{leZ}
 use Rattle.std.proofs.shelf.Signed.{ints}
 use Rattle.std.specs.declared.option.Option.{Option}
 use Rattle.std.specs.declared.option.Option.the-variants.{Some, None}
@@ -26,7 +26,7 @@ use Rattle.shelf.specs.Laws.{Lawful}
 use Rattle.shelf.proofs.Settled.{settled-inside, settled-number}
 use Rattle.shelf_laws.specs.Grid.{lengthOk}
 use Rattle.shelf_laws.specs.Making.{gridFault}
-use Rattle.shelf_laws.specs.Single.{Asked, AskedFor, fixedOk}
+use Rattle.shelf_laws.specs.Single.{Asked, fixedOk}
 use Rattle.shelf_laws.specs.ByteGrid.{byteCells, byteGridFault, byteKind, byteMeaning, byteValue, takesBytes}
 use Rattle.shelf_laws.proofs.Makings.{Allowed, allowed-describable, grid-allowed}
 use Rattle.shelf_laws.proofs.Singles.{asked-all, fixed-lawful}
@@ -67,6 +67,8 @@ pub bytes-kept : (name : List ℕ) (d : Domain) (n : ℕ) (o : Option Descriptio
     (fixedOk o ≡ true) × (takesBytes o ≡ true) × (lengthOk o n ≡ true)
 bytes-kept name d n o h g =
     asked-all (λ x. (fixedOk x ≡ true) × (takesBytes x ≡ true) × (lengthOk x n ≡ true)) name d byteKind false o (h .named) g
-    (λ a s. (and-both _ _ (allowed-describable name d byteKind n a h (s .named) (s .domained) (s .kinded)) (ap not (s .marked)),
+    (λ a s. (
+      and-both _ _ (allowed-describable name d byteKind n a h (s .named) (s .domained) (s .kinded)) (ap not (s .marked)),
       ap (λ k. leZ (low k) (pos 0) && leZ (pos 254) (high k)) (s .kinded),
-      eq-eqb n (cells (extents (a .domain))) (h .long ∙ sym (ap (λ x. cells (extents x)) (s .domained)))))
+      eq-eqb n (cells (extents (a .domain))) (h .long ∙ sym (ap (λ x. cells (extents x)) (s .domained))),
+    ))

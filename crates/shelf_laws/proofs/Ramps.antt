@@ -1,9 +1,9 @@
 -- Ramps: what an axis adds is small, the span holds every cell, and both of its ends are reached.
 use mathlib.Core.Path.{_≡_, refl, sym, ap, ap₂, subst, _∙_}
 use mathlib.Core.List.{List, [], _∷_}
-use mathlib.Core.Bool.{Bool, true, false, cond, not, _&&_}
-use mathlib.Core.Logic.{_⊎_, inl, inr}
-use Prim.Native.Nat.{ℕ, zero, suc, _+_, _*_, _≤_, _<_}
+use mathlib.Core.Bool.{true, false, cond, not, _&&_}
+use mathlib.Core.Logic.{inl, inr}
+use Prim.Native.Nat.{ℕ, _+_, _*_, _≤_, _<_}
 use native.Mathlib.Omega.{arith}
 use lib.IntN.{ℤ, pos, negsuc, _+ℤ_, _*ℤ_}
 use lib.ListN.{length, getD, drop}
@@ -31,7 +31,7 @@ use Rattle.shelf.specs.Meaning.{settled, settledOn}
 use Rattle.shelf.specs.Laws.{Lawful}
 use Rattle.shelf_laws.specs.Single.{Asked, fixedOk}
 use Rattle.shelf_laws.specs.Ramp.{AtCorner, AtEnd, Gradient, SpanIsExact, allMild, isMild, isNear, least, most, rampCells, rampFault, rampKind, rampMeaning, rampOk, rampSpan, rampValue, rise, riseAt, rises, sumOver}
-use Rattle.shelf_laws.proofs.Products.{Between, Small, fits-64, mul-between, mul-small}
+use Rattle.shelf_laws.proofs.Products.{Small, fits-64, mul-between, mul-small}
 use Rattle.shelf_laws.proofs.Makings.{Allowed, allowed-describable, cond-none}
 use Rattle.shelf_laws.proofs.Singles.{asked-all, fixed-lawful}
 
@@ -218,11 +218,11 @@ pub ramp-lawful : (o : Option Description) (g : Gradient) (offset : ℤ) → fix
 ramp-lawful o g offset h ok =
     fixed-lawful o (rampCells g offset) h
     (λ a is p e.
-      let d = extents (a .domain) in
-      let s = sloped-from o a g offset is ok in
-      let b = span-holds g offset d p (inside-from d p e) in
-      subst (λ v. Within (a .kind) (Some v)) (sym (settled-value g offset d p))
-      (subst (λ v. v ≤ℤ rampValue g offset d p) (sym (s .lowest)) (b .0), subst (λ v. rampValue g offset d p ≤ℤ v) (sym (s .highest)) (b .1)))
+    let d = extents (a .domain) in
+    let s = sloped-from o a g offset is ok in
+    let b = span-holds g offset d p (inside-from d p e) in
+    subst (λ v. Within (a .kind) (Some v)) (sym (settled-value g offset d p))
+    (subst (λ v. v ≤ℤ rampValue g offset d p) (sym (s .lowest)) (b .0), subst (λ v. rampValue g offset d p ≤ℤ v) (sym (s .highest)) (b .1)))
 
 -- every cell inside is small
 pub value-small : (g : Gradient) (offset : ℤ) (d : Extents) (p : Coordinates) → bounded d ≡ true → allMild g ≡ true → isNear offset ≡ true → Inside d p → Small 2000000000 (rampValue g offset d p)
@@ -272,6 +272,7 @@ span-allowed name d g offset h =
   where
     test : (x y : ℤ) → x ≤ℤ y → leZ x y ≡ true
     test x y h = grind (arith, ints)
+
     ends-narrow : (x y v : ℤ) → x ≤ℤ v → v ≤ℤ y → Small 2000000000 x → Small 2000000000 y → (leZ x y ≡ true) × (leZ (negsuc 2147483646) x ≡ true) × (leZ y (pos 2147483647) ≡ true)
     ends-narrow x y v p q a b = (test x y (omega (arith, ints)), test (negsuc 2147483646) x (omega (arith, ints)), test y (pos 2147483647) (omega (arith, ints)))
 
@@ -282,7 +283,8 @@ ramp-kept name d g offset o h asked =
     let k = rampKind g offset (extents d) in
     asked-all (λ x. (fixedOk x ≡ true) × (rampOk x g offset ≡ true)) name d k false o (h .named) asked
     (λ a s.
-      let span : (f : Range → ℤ) → f (rampSpan g offset (extents d)) ≡ f (rampSpan g offset (extents (a .domain))) = λ f. ap (λ x. f (rampSpan g offset (extents x))) (sym (s .domained)) in
-      (and-both _ _ (allowed-describable name d k (cells (extents d)) a (span-allowed name (extents d) g offset h) (s .named) (s .domained) (s .kinded)) (ap not (s .marked)),
-        and-both _ _ (h .mild) (and-both _ _ (h .near)
-        (and-both _ _ (sameZ-same _ _ (ap low (s .kinded) ∙ span (λ r. r .lo))) (sameZ-same _ _ (ap high (s .kinded) ∙ span (λ r. r .hi)))))))
+    let span : (f : Range → ℤ) → f (rampSpan g offset (extents d)) ≡ f (rampSpan g offset (extents (a .domain))) = λ f. ap (λ x. f (rampSpan g offset (extents x))) (sym (s .domained)) in (
+      and-both _ _ (allowed-describable name d k (cells (extents d)) a (span-allowed name (extents d) g offset h) (s .named) (s .domained) (s .kinded)) (ap not (s .marked)),
+      and-both _ _ (h .mild) (and-both _ _ (h .near)
+          (and-both _ _ (sameZ-same _ _ (ap low (s .kinded) ∙ span (λ r. r .lo))) (sameZ-same _ _ (ap high (s .kinded) ∙ span (λ r. r .hi))))),
+    ))

@@ -1,7 +1,7 @@
 -- A shelf of one coverage or none: its calls by the description, the laws of a fixed one, and its making.
 use mathlib.Core.Path.{_≡_, refl, sym, ap, subst, _∙_}
 use mathlib.Core.List.{List, [], _∷_}
-use mathlib.Core.Bool.{Bool, true, false, cond, not, _&&_}
+use mathlib.Core.Bool.{Bool, true, false, cond}
 use Prim.Native.Nat.{ℕ, zero, suc}
 use native.Mathlib.Omega.{arith}
 use borrow.Author.Tests.{clash, not-true}
@@ -20,8 +20,8 @@ use Rattle.coverage.proofs.Bools.{and-left, and-right, by-test}
 use Rattle.shelf.specs.declared.fault.MakingFault.{MakingFault}
 use Rattle.shelf.specs.declared.fault.ShelfFault.{ShelfFault}
 use Rattle.shelf.specs.declared.fault.ShelfFault.the-variants.{Outside}
-use Rattle.shelf.specs.Meaning.{Coverage, cellAt, describeAnswer, lookAnswer, settled, stripAfter, stripAnswer, stripFault}
-use Rattle.shelf.specs.Laws.{Lawful, LawfulCoverage}
+use Rattle.shelf.specs.Meaning.{Coverage, describeAnswer, lookAnswer, settled, stripAfter, stripAnswer, stripFault}
+use Rattle.shelf.specs.Laws.{Lawful}
 use Rattle.shelf.proofs.Single.{none-lawful, one-lawful, refused-is}
 use Rattle.shelf_laws.specs.Single.{Asked, AskedFor, CellsOf, MadeFixed, fixedFault, fixedOk, held, reached, single}
 
@@ -59,12 +59,12 @@ reached-in (Some b) zero p a e =
     let some : Description → Option Description = λ x. Some x in
     by-test (insideB d p)
     (λ t.
-      let q : there ≡ Ok a = sym (ap (λ x. cond x there (Err (Outside 0))) t) ∙ e in
-      let same : b ≡ a = cc in
-      (ap some same, subst (λ (x : Description). insideB (extents (x .domain)) p ≡ true) same t))
+    let q : there ≡ Ok a = sym (ap (λ x. cond x there (Err (Outside 0))) t) ∙ e in
+    let same : b ≡ a = cc in
+    (ap some same, subst (λ (x : Description). insideB (extents (x .domain)) p ≡ true) same t))
     (λ t.
-      let q : _≡_ {A = Result Description ShelfFault} (Err (Outside 0)) (Ok a) = sym (ap (λ x. cond x there (Err (Outside 0))) t) ∙ e in
-      absurd (let z : _≡_ {A = ℕ} 0 1 = cc in omega arith))
+    let q : _≡_ {A = Result Description ShelfFault} (Err (Outside 0)) (Ok a) = sym (ap (λ x. cond x there (Err (Outside 0))) t) ∙ e in
+    absurd (let z : _≡_ {A = ℕ} 0 1 = cc in omega arith))
 reached-in (Some b) (suc c) p a e = absurd (let z : _≡_ {A = ℕ} 0 1 = cc in omega arith)
 
 fixed-fault : (o : Option Description) (cell : CellsOf) (c n : ℕ) (row : List ℤ) → fixedOk o ≡ true → stripFault (single o cell) c n row ≡ Some (fixedFault o c n)
@@ -110,7 +110,7 @@ made-fixed f name d k cell o e n h =
     let make : Description → Domain → List Coverage = λ a x. (record { about = a; cell = cell (extents x) }) ∷ [] in
     subst (λ x. MadeFixed x name d k cell (single o cell)) (sym e)
     (asked-all (λ x. MadeFixed None name d k cell (single x cell)) name d k false o n h
-      (λ a g. record { about = a; asked = g; only = ap (make a) (g .domained) }))
+    (λ a g. record { about = a; asked = g; only = ap (make a) (g .domained) }))
 
 pub refused-fixed : (f : Option MakingFault) (g : MakingFault) (name : List ℕ) (d : Domain) (k : Kind) (cell : CellsOf) → f ≡ Some g → MadeFixed f name d k cell []
 refused-fixed f g name d k cell e = subst (λ x. MadeFixed x name d k cell []) (sym e) refl

@@ -1,6 +1,5 @@
-use mathlib.Core.Path.{_≡_, refl, sym, ap, ap₂, subst, _∙_}
-use mathlib.Core.Bool.{true}
-use Prim.Native.Nat.{ℕ, _+_, _*_, _≤_, _<_}
+use mathlib.Core.Path.{_≡_, sym, ap, ap₂, subst, _∙_}
+use Prim.Native.Nat.{ℕ, _+_, _*_, _<_}
 use native.Mathlib.Omega.{arith}
 use lib.IntN.{ℤ, _+ℤ_}
 use lib.ListN.{length, getD}
@@ -9,7 +8,6 @@ use mir.Syntax.{w64}
 use Rattle.std.proofs.shelf.Signed.{toZ-ofZ}
 use Rattle.coverage.specs.declared.axis.Axis.{Axis}
 use Rattle.coverage.specs.declared.axis.Axis.the-variants.{X}
-use Rattle.coverage.specs.declared.domain.Domain.{Domain}
 use Rattle.coverage.specs.declared.range.Range.{Range}
 use Rattle.coverage.specs.Axes.{axes, extents}
 use Rattle.coverage.specs.Limits.{axisBounded}
@@ -69,11 +67,12 @@ loop-axis-again c =
     let a = getD axes (c .loop-axis .axis-index) X in
     let s = toZ-ofZ w64 (c .on-in-loop-axis .result) (record { sfits = c .on-in-loop-axis .ok }) ∙ c .on-in-loop-axis .ensures in
     let w : c .rises-rises .result ≡ rises (d a) (g a) = c .rises-rises .ensures ∙ ap₂ rises (c .on .ensures) s in
-    let small = rises-small (d a) (g a) (each-bounded d (c .pre .bounded) a) (each-mild g (c .pre .mild) a) in
-    (end-turn (least d g) _ (c .loop-axis .axis-index) (c .loop-axis .span .lo) (c .rises-rises .result .lo) (c .loop-axis .inv .0) (c .loop-axis-test .taken)
-      (ap (λ (r : Range). r .lo) w) (subst (λ (r : Range). Small 100000000 (r .lo)) (sym w) (small .0)) .1,
+    let small = rises-small (d a) (g a) (each-bounded d (c .pre .bounded) a) (each-mild g (c .pre .mild) a) in (
+      end-turn (least d g) _ (c .loop-axis .axis-index) (c .loop-axis .span .lo) (c .rises-rises .result .lo) (c .loop-axis .inv .0) (c .loop-axis-test .taken)
+          (ap (λ (r : Range). r .lo) w) (subst (λ (r : Range). Small 100000000 (r .lo)) (sym w) (small .0)) .1,
       end-turn (most d g) _ (c .loop-axis .axis-index) (c .loop-axis .span .hi) (c .rises-rises .result .hi) (c .loop-axis .inv .1) (c .loop-axis-test .taken)
-      (ap (λ (r : Range). r .hi) w) (subst (λ (r : Range). Small 100000000 (r .hi)) (sym w) (small .1)) .1)
+          (ap (λ (r : Range). r .hi) w) (subst (λ (r : Range). Small 100000000 (r .hi)) (sym w) (small .1)) .1,
+    )
 
 pub returns : need.returns
 returns c =

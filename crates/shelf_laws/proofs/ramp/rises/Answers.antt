@@ -1,8 +1,8 @@
-use mathlib.Core.Path.{_≡_, sym, ap, ap₂, subst, _∙_}
+use mathlib.Core.Path.{_≡_, sym, ap, ap₂, _∙_}
 use mathlib.Core.Bool.{true}
 use native.Mathlib.Omega.{arith}
 use borrow.Author.Needs.{needs}
-use lib.IntN.{ℤ, pos, _*ℤ_}
+use lib.IntN.{ℤ, _*ℤ_}
 use mir.Val.{toZ, ofZ, SFits}
 use mir.Syntax.{w64}
 use Rattle.std.specs.Numbers.{minZ, maxZ}
@@ -47,9 +47,9 @@ returns-in-Some c =
     let fl : SFits w64 (r .lo) = search needs in
     let fh : SFits w64 (r .hi) = search needs in
     let near : toZ w64 (ofZ w64 (toZ w64 (ofZ w64 s) *ℤ toZ w64 (ofZ w64 (r .lo)))) ≡ s *ℤ r .lo =
-          rw (toZ-ofZ w64 s (c .fits .slope), toZ-ofZ w64 (r .lo) fl) (toZ-ofZ w64 _ (p .0)) in
+    rw (toZ-ofZ w64 s (c .fits .slope), toZ-ofZ w64 (r .lo) fl) (toZ-ofZ w64 _ (p .0)) in
     let far : toZ w64 (ofZ w64 (toZ w64 (ofZ w64 s) *ℤ toZ w64 (ofZ w64 (r .hi)))) ≡ s *ℤ r .hi =
-          rw (toZ-ofZ w64 s (c .fits .slope), toZ-ofZ w64 (r .hi) fh) (toZ-ofZ w64 _ (p .1)) in
+    rw (toZ-ofZ w64 s (c .fits .slope), toZ-ofZ w64 (r .hi) fh) (toZ-ofZ w64 _ (p .1)) in
     made r s _ _
     (toZ-ofZ w64 (c .min .result) (record { sfits = c .min .ok }) ∙ (c .min .ensures .value ∙ ap₂ minZ near far))
     (toZ-ofZ w64 (c .max .result) (record { sfits = c .max .ok }) ∙ (c .max .ensures .value ∙ ap₂ maxZ near far))

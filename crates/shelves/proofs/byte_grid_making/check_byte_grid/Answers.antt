@@ -1,4 +1,4 @@
-use mathlib.Core.Path.{_≡_, ap, _∙_}
+use mathlib.Core.Path.{ap, _∙_}
 use Rattle.coverage.specs.Axes.{extents}
 use Rattle.shelf_laws.specs.Making.{answerOf}
 use Rattle.shelf_laws.proofs.ByteGrids.{byte-fault-is}

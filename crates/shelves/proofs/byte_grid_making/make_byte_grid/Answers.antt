@@ -1,4 +1,4 @@
-use mathlib.Core.Path.{_≡_, sym}
+use mathlib.Core.Path.{sym}
 use lib.ListN.{length}
 use Rattle.coverage.specs.Axes.{extents}
 use Rattle.shelf_laws.specs.ByteGrid.{byteCells, byteGridFault, byteKind}

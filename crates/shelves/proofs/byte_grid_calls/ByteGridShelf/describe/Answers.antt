@@ -1,4 +1,4 @@
-use mathlib.Core.Path.{_≡_, sym, _∙_}
+use mathlib.Core.Path.{sym, _∙_}
 use Rattle.shelf_laws.specs.ByteGrid.{byteCells}
 use Rattle.shelf_laws.proofs.Singles.{describe-held}
 use Rattle.shelves.proofs.byte_grid_calls.ByteGridShelf.describe.Needs as need

@@ -1,9 +1,7 @@
-use mathlib.Core.Path.{_≡_, refl, sym, ap, subst, _∙_}
-use mathlib.Core.Bool.{true}
-use Prim.Native.Nat.{_≤_}
+use mathlib.Core.Path.{_≡_, sym, ap, subst, _∙_}
 use native.Mathlib.Omega.{arith}
 use borrow.Author.Needs.{needs}
-use lib.IntN.{ℤ, _+ℤ_}
+use lib.IntN.{ℤ}
 use mir.Val.{toZ, ofZ, SFits}
 use mir.Syntax.{w32, w64}
 use Rattle.std.proofs.shelf.Results.{err-from-errBy}
@@ -12,12 +10,11 @@ use Rattle.std.specs.declared.option.Option.{Option}
 use Rattle.std.specs.declared.option.Option.the-variants.{Some}
 use Rattle.std.specs.declared.result.Result.{Result}
 use Rattle.std.specs.declared.result.Result.the-variants.{Ok, Err}
-use Rattle.coverage.specs.declared.description.Description.{Description}
 use Rattle.coverage.specs.Axes.{coordinates, extents}
 use Rattle.coverage.proofs.Bounds.{describable-by}
 use Rattle.coverage.proofs.Points.{inside-from}
 use Rattle.shelf.specs.declared.fault.ShelfFault.{ShelfFault}
-use Rattle.shelf_laws.specs.Ramp.{gradient, isNear, rampCells, rampOk, rampValue}
+use Rattle.shelf_laws.specs.Ramp.{gradient, isNear, rampCells, rampValue}
 use Rattle.shelf_laws.specs.Single.{fixedOk, reached}
 use Rattle.shelf_laws.proofs.Products.{fits-32}
 use Rattle.shelf_laws.proofs.Ramps.{settled-value, sloped-from, value-small}
@@ -60,7 +57,7 @@ cast-result c =
     let b = describable-by a (described-by a (ap fixedOk (sym (r .0)) ∙ me .described)) .axes-bounded in
     let f : SFits w64 (me .offset) = search needs in
     let v : toZ w64 (ofZ w64 (c .ramp-value-v .result)) ≡ rampValue g (me .offset) d p =
-          toZ-ofZ w64 (c .ramp-value-v .result) (record { sfits = c .ramp-value-v .ok }) ∙ (c .ramp-value-v .ensures ∙ ap (λ o. rampValue g o d p) (toZ-ofZ w64 (me .offset) f)) in
+    toZ-ofZ w64 (c .ramp-value-v .result) (record { sfits = c .ramp-value-v .ok }) ∙ (c .ramp-value-v .ensures ∙ ap (λ o. rampValue g o d p) (toZ-ofZ w64 (me .offset) f)) in
     subst (SFits w32) (sym v) (fits-32 2000000000 (rampValue g (me .offset) d p) (omega arith) (value-small g (me .offset) d p b (s .mild) (s .near) (inside-from d p (r .1))))
 
 pub returns : need.returns
@@ -78,7 +75,7 @@ returns c =
     let b = describable-by a (described-by a (ap fixedOk (sym (r .0)) ∙ me .described)) .axes-bounded in
     let f : SFits w64 (me .offset) = search needs in
     let v : toZ w64 (ofZ w64 (c .ramp-value-v .result)) ≡ rampValue g (me .offset) d p =
-          toZ-ofZ w64 (c .ramp-value-v .result) (record { sfits = c .ramp-value-v .ok }) ∙ (c .ramp-value-v .ensures ∙ ap (λ o. rampValue g o d p) (toZ-ofZ w64 (me .offset) f)) in
+    toZ-ofZ w64 (c .ramp-value-v .result) (record { sfits = c .ramp-value-v .ok }) ∙ (c .ramp-value-v .ensures ∙ ap (λ o. rampValue g o d p) (toZ-ofZ w64 (me .offset) f)) in
     let narrow = fits-32 2000000000 (rampValue g (me .offset) d p) (omega arith) (value-small g (me .offset) d p b (s .mild) (s .near) (inside-from d p (r .1))) in
     ap ok (ap (λ x. toZ w32 (ofZ w32 x)) v ∙ toZ-ofZ w32 (rampValue g (me .offset) d p) narrow)
     ∙ sym (look-reached (me .about) cell (c .args .coverage) p ∙ (ap (λ x. seen cell x p) is ∙ ap ok (settled-value g (me .offset) d p)))
