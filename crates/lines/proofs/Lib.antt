@@ -1,0 +1,10 @@
+pub mod Bytes
+pub mod Literals
+pub mod Runs
+pub mod Words
+pub mod Numbers
+pub mod Worths
+pub mod Compares
+pub mod Ranges
+pub mod Endings
+pub mod Chains
