@@ -5,3 +5,4 @@ pub mod Caps
 pub mod Loops
 pub mod Turns
 pub mod Standing
+pub mod Bounds

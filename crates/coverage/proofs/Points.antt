@@ -37,7 +37,7 @@ nth-rank T = refl
 pub axis-of : (a b : Axis) → sameAxis a b ≡ true → a ≡ b
 axis-of a b h = sym (nth-rank a) ∙ (ap (λ (n : ℕ). getD axes n X) (eqb-true (rank a) (rank b) h) ∙ nth-rank b)
 
-each-over : (list : List Axis) (f : Axis → Bool) → allOver f list ≡ true → (a : Axis) → member a list ≡ true → f a ≡ true
+pub each-over : (list : List Axis) (f : Axis → Bool) → allOver f list ≡ true → (a : Axis) → member a list ≡ true → f a ≡ true
 each-over [] f h a m = absurd (clash m)
 each-over (b ∷ rest) f h a m = go (sameAxis b a) refl m (each-over rest f (and-right (f b) _ h) a)
   where
@@ -87,7 +87,7 @@ coord-holds (Some r) n v h =
     let k : n % width r < width r = mod-below n (width r) (omega (arith, ints)) in
     (omega (arith, ints), omega (arith, ints))
 
-point-over-inside : (list : List Axis) (d : Extents) (n : ℕ) (p : Coordinates) → ((a : Axis) → Ordered (d a)) → (a : Axis) → member a list ≡ true → Holds (d a) (pointOver list d n p a)
+pub point-over-inside : (list : List Axis) (d : Extents) (n : ℕ) (p : Coordinates) → ((a : Axis) → Ordered (d a)) → (a : Axis) → member a list ≡ true → Holds (d a) (pointOver list d n p a)
 point-over-inside [] d n p g a m = absurd (clash m)
 point-over-inside (b ∷ rest) d n p g a m = go (sameAxis b a) refl m (point-over-inside rest d (n / sizeOf (d b)) p g a)
   where
@@ -104,7 +104,7 @@ point-inside d n p h a = point-over-inside axes d n p h a (present a)
 
 -- ---- inside, as a test and as a fact
 
-on-holds : (r : Option Range) (v : ℤ) → onAxis r v ≡ true → Holds r v
+pub on-holds : (r : Option Range) (v : ℤ) → onAxis r v ≡ true → Holds r v
 on-holds None v h = tt
 on-holds (Some r) v h =
     let a = and-left (leZ (r .lo) v) _ h in
@@ -114,16 +114,28 @@ on-holds (Some r) v h =
 pub inside-from : (d : Extents) (p : Coordinates) → insideB d p ≡ true → Inside d p
 inside-from d p h a = on-holds (d a) (p a) (each (λ b. onAxis (d b) (p b)) h a)
 
-holds-on : (r : Option Range) (v : ℤ) → Holds r v → onAxis r v ≡ true
+pub holds-on : (r : Option Range) (v : ℤ) → Holds r v → onAxis r v ≡ true
 holds-on None v h = refl
 holds-on (Some r) v h =
     let a : leZ (r .lo) v ≡ true = grind (arith, ints) in
     let b : leZ v (r .hi) ≡ true = grind (arith, ints) in
     and-both _ _ a b
 
-all-over : (list : List Axis) (f : Axis → Bool) → ((a : Axis) → f a ≡ true) → allOver f list ≡ true
+pub all-over : (list : List Axis) (f : Axis → Bool) → ((a : Axis) → f a ≡ true) → allOver f list ≡ true
 all-over [] f h = refl
 all-over (a ∷ rest) f h = and-both (f a) _ (h a) (all-over rest f h)
+
+-- a test that holds on each axis of a list holds of the list
+pub all-members : (list : List Axis) (f : Axis → Bool) → ((a : Axis) → member a list ≡ true → f a ≡ true) → allOver f list ≡ true
+all-members [] f h = refl
+all-members (b ∷ rest) f h = and-both (f b) _ (h b (own (sameAxis b b) (eq-eqb _ _ refl))) (all-members rest f (λ a m. h a (later a (sameAxis b a) m)))
+  where
+    own : (s : Bool) → s ≡ true → cond s true (member b rest) ≡ true
+    own true e = refl
+    own false e = absurd (clash e)
+    later : (a : Axis) (s : Bool) → member a rest ≡ true → cond s true (member a rest) ≡ true
+    later a true m = refl
+    later a false m = m
 
 pub inside-test : (d : Extents) (p : Coordinates) → Inside d p → insideB d p ≡ true
 inside-test d p h = all-over axes (λ a. onAxis (d a) (p a)) (λ a. holds-on (d a) (p a) (h a))

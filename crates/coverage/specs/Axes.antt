@@ -106,6 +106,11 @@ abbrev pub onAxis : Option Range → ℤ → Bool
 onAxis None v = true
 onAxis (Some r) v = inRange r v
 
+-- the lowest coordinate of an axis, 0 where it is absent
+abbrev pub lowestOn : Option Range → ℤ
+lowestOn None = pos 0
+lowestOn (Some r) = r .lo
+
 -- how far a coordinate stands from the lowest of its axis
 abbrev pub stepOf : Option Range → ℤ → ℕ
 stepOf None v = 0

@@ -7,7 +7,7 @@ use Rattle.std.specs.declared.option.Option.{Option}
 use Rattle.std.specs.declared.option.Option.the-variants.{Some, None}
 use Rattle.coverage.specs.declared.range.Range.{Range}
 use Rattle.coverage.specs.declared.axis.Axis.the-variants.{X, Y, T}
-use Rattle.coverage.specs.Axes.{Extents, Coordinates, origin, across, allOver, isNone, sameZ, sizeOf, onAxis, cellsOver, numberOver, pointOver}
+use Rattle.coverage.specs.Axes.{Extents, Coordinates, origin, across, allOver, isNone, sameZ, sizeOf, onAxis, cellsOver, lowestOn, numberOver, pointOver, put}
 
 -- how many cells a strip has
 abbrev pub rowWidth : Extents → ℕ
@@ -20,6 +20,10 @@ strips d = cellsOver across d
 -- where strip n stands: numbers run over y first, then over t; an absent axis has coordinate 0
 unfoldable pub stripPoint : Extents → ℕ → Coordinates
 stripPoint d n = pointOver across d n origin
+
+-- the first point of strip n: where it stands, with the lowest x
+abbrev pub stripFirst : Extents → ℕ → Coordinates
+stripFirst d n = put (stripPoint d n) X (lowestOn (d X))
 
 -- the number of the strip through a point
 unfoldable pub stripAt : Extents → Coordinates → ℕ

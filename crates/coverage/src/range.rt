@@ -1,5 +1,5 @@
 ghost use Prim.Native.Nat.{_*_, _+_, _<_, _≤_, _%_, min};
-ghost use Rattle.coverage.specs.Axes.{Holds, coordOf, inRange, onAxis, sameRange, sizeOf, stepOf, width};
+ghost use Rattle.coverage.specs.Axes.{Holds, coordOf, inRange, lowestOn, onAxis, sameRange, sizeOf, stepOf, width};
 ghost use Rattle.coverage.specs.Limits.{axisBounded, ordered};
 ghost use lib.IntN.{pos, _+ℤ_};
 ghost use mathlib.Core.Path.{_≡_};
@@ -64,6 +64,16 @@ pub fn places(axis: Option<Range>) -> usize
     match axis {
         Some(range) => range.count(),
         None => 1,
+    }
+}
+
+/// The lowest coordinate of an axis, 0 where it is absent.
+pub fn lowest(axis: Option<Range>) -> i64
+    ensures { λ r. ⌜ r ≡ lowestOn axis ⌝ }
+{
+    match axis {
+        Some(range) => range.lo,
+        None => 0,
     }
 }
 

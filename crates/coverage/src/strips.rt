@@ -1,12 +1,14 @@
-ghost use Prim.Native.Nat.{min, _<_, _≤_};
-ghost use Rattle.coverage.specs.Axes.{Inside, Sized, coordinates, extents};
-ghost use Rattle.coverage.specs.Strips.{Stands, rowWidth, stripAt, stripPoint, strips as stripsOf};
+ghost use Prim.Native.Nat.{min, _*_, _<_, _≤_};
+ghost use Rattle.coverage.specs.Axes.{Inside, Ordered, Sized, cells as cellsOf, coordinates, extents};
+ghost use Rattle.coverage.specs.Strips.{Stands, rowWidth, stripAt, stripFirst, stripPoint, strips as stripsOf};
 ghost use Rattle.coverage.specs.declared.axis.Axis.{Axis as AnAxis};
 ghost use mathlib.Core.Path.{_≡_};
 use crate::axis::ACROSS;
+use crate::axis::Axis;
 use crate::domain::Domain;
 use crate::domain::ORIGIN;
 use crate::domain::Point;
+use crate::range::lowest;
 use crate::range::places;
 
 // A strip is a row along x. Strips are numbered from 0, over y first and then over t.
@@ -32,6 +34,24 @@ impl Domain {
         ensures stands { λ r. ⌜ (n < stripsOf (extents self) → Stands (extents self) n (coordinates r)) ⌝ }
     {
         self.point_over(&ACROSS, n, ORIGIN)
+    }
+
+    /// The first point of a strip: the one with the lowest x where the strip stands.
+    pub fn strip_first(self, n: usize) -> Point
+        requires sized { ⌜ Sized (extents self) ⌝ }
+        ensures { λ r. ⌜ coordinates r ≡ stripFirst (extents self) n ⌝ }
+    {
+        self.strip_point(n).with(Axis::X, lowest(self.x))
+    }
+
+    /// The number of a strip's first cell.
+    pub fn strip_start(self, n: usize) -> usize
+        requires ordered { ⌜ ((a : AnAxis) → Ordered (extents self a)) ⌝ }
+        requires few { ⌜ cellsOf (extents self) ≤ 65536 ⌝ }
+        requires below { ⌜ n < stripsOf (extents self) ⌝ }
+        ensures { λ r. ⌜ r ≡ n * rowWidth (extents self) ⌝ }
+    {
+        self.cell_number(self.strip_first(n))
     }
 
     /// The number of the strip through a point inside.

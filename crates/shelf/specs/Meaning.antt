@@ -17,10 +17,10 @@ use Rattle.coverage.specs.declared.axis.Axis.the-variants.{X}
 use Rattle.coverage.specs.declared.range.Range.{Range}
 use Rattle.coverage.specs.declared.kind.Kind.{Kind}
 use Rattle.coverage.specs.declared.description.Description.{Description}
-use Rattle.coverage.specs.Axes.{Extents, Coordinates, extents, insideB, put, stepOf}
+use Rattle.coverage.specs.Axes.{Extents, Coordinates, extents, insideB, stepOf}
 use Rattle.coverage.specs.Kinds.{fits}
 use Rattle.coverage.specs.Limits.{nameBytes}
-use Rattle.coverage.specs.Strips.{inStrip, rowWidth, stripPoint, strips}
+use Rattle.coverage.specs.Strips.{inStrip, rowWidth, stripFirst, strips}
 use Rattle.shelf.specs.declared.fault.ShelfFault.{ShelfFault}
 use Rattle.shelf.specs.declared.fault.ShelfFault.the-variants.{NoCoverage, Outside, Fixed, NoStrip, Unfit, AlreadyThere}
 
@@ -82,26 +82,29 @@ putStrip k n cs = record {
   cell = λ p. cond (inStrip (domainOf k) n p) (Some (getD cs (stepOf (domainOf k X) (p X)) (pos 0))) (k .cell p);
 }
 
--- the lowest coordinate of an axis, 0 where it is absent
-abbrev pub lowestOn : Option Range → ℤ
-lowestOn None = pos 0
-lowestOn (Some r) = r .lo
-
 -- whether strip n has come: its first cell is not null
 abbrev pub stripThere : Coverage → ℕ → Bool
-stripThere k n = isSome (cellAt k (put (stripPoint (domainOf k) n) X (lowestOn (domainOf k X))))
+stripThere k n = isSome (cellAt k (stripFirst (domainOf k) n))
 
--- why a strip is refused by a coverage, or nothing: fixed, no such strip, wrong length or a cell outside
--- the kind, already there; tested in this order
-abbrev pub stripRefused : Coverage → ℕ → ℕ → List ℤ → Option ShelfFault
-stripRefused k c n cs =
-    cond (k .about .receives)
-    (cond (ltb n (strips (domainOf k)))
-    (cond (eqb (length cs) (rowWidth (domainOf k)) && allFit (k .about .kind) cs)
-    (cond (stripThere k n) (Some (AlreadyThere c n)) None)
+-- why a strip does not fit a coverage, or nothing: fixed, no such strip, wrong length or a cell outside
+-- the kind; tested in this order
+abbrev pub shapeFault : Description → ℕ → ℕ → List ℤ → Option ShelfFault
+shapeFault a c n cs =
+    cond (a .receives)
+    (cond (ltb n (strips (extents (a .domain))))
+    (cond (eqb (length cs) (rowWidth (extents (a .domain))) && allFit (a .kind) cs)
+    None
     (Some (Unfit c n)))
     (Some (NoStrip c n)))
     (Some (Fixed c n))
+
+abbrev pub first : Option ShelfFault → Option ShelfFault → Option ShelfFault
+first None g = g
+first (Some f) g = Some f
+
+-- why a strip is refused by a coverage, or nothing: it does not fit, or last, it is already there
+abbrev pub stripRefused : Coverage → ℕ → ℕ → List ℤ → Option ShelfFault
+stripRefused k c n cs = first (shapeFault (k .about) c n cs) (cond (stripThere k n) (Some (AlreadyThere c n)) None)
 
 abbrev pub faultAt : Option Coverage → ℕ → ℕ → List ℤ → Option ShelfFault
 faultAt None c n cs = Some (NoCoverage c n)

@@ -1,4 +1,4 @@
-ghost use Rattle.shelf.specs.Faults.{makingRefusal, shelfRefusal};
+ghost use Rattle.shelf.specs.Faults.{makingRefusal, renumbered, shelfRefusal};
 ghost use mathlib.Core.Path.{_≡_};
 use coverage::Layer;
 use coverage::Refusal;
@@ -29,6 +29,20 @@ pub enum MakingFault {
 }
 
 impl ShelfFault {
+    /// The same fault, told under another coverage's and another strip's number.
+    pub fn renumbered(self, coverage: usize, strip: usize) -> ShelfFault
+        ensures { λ r. ⌜ r ≡ renumbered self coverage strip ⌝ }
+    {
+        match self {
+            ShelfFault::NoCoverage(_, _) => ShelfFault::NoCoverage(coverage, strip),
+            ShelfFault::Outside(_) => ShelfFault::Outside(coverage),
+            ShelfFault::Fixed(_, _) => ShelfFault::Fixed(coverage, strip),
+            ShelfFault::NoStrip(_, _) => ShelfFault::NoStrip(coverage, strip),
+            ShelfFault::Unfit(_, _) => ShelfFault::Unfit(coverage, strip),
+            ShelfFault::AlreadyThere(_, _) => ShelfFault::AlreadyThere(coverage, strip),
+        }
+    }
+
     /// The fault as it is told.
     pub fn refusal(self) -> Refusal
         ensures { λ r. ⌜ r ≡ shelfRefusal self ⌝ }
