@@ -8,3 +8,4 @@ pub mod Compares
 pub mod Ranges
 pub mod Endings
 pub mod Chains
+pub mod CellTexts

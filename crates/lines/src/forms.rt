@@ -1,6 +1,6 @@
 // The forms: each is a row of pieces, and answers its command, or the place where the line stops being it.
 ghost use Prim.Native.Nat.{_≤_};
-ghost use Rattle.lines.specs.Forms.{axisForm, bareForm, boundsForm, checkForm, countForm, farther, forms, gridForm, gridForms, helpForm, kindForm, lookForm, placed, stopOver, stripForm};
+ghost use Rattle.lines.specs.Forms.{axisForm, bareForm, boundsForm, checkForm, countForm, farther, forms, gridForm, gridForms, helpForm, kindForm, lookForm, otherForms, placed, stopOver, stripForm};
 ghost use Rattle.lines.specs.Pieces.{Reads, Stops, stop};
 ghost use Rattle.lines.specs.Says.{AxisSays, Bounds as BoundsSay, KindSays, Said};
 ghost use Rattle.std.specs.Holes.{between};
@@ -218,4 +218,51 @@ fn either<'a>(line: &'a [u8], one: Result<Command<'a>, usize>, other: Result<Com
             Err(q) => Err(p.max(q)),
         },
     }
+}
+
+/// A grid line with or without y and t, of numbers or of truths; else what the line is besides.
+fn grid_or<'a>(line: &'a [u8], has_y: bool, has_t: bool, besides: Result<Command<'a>, usize>) -> Result<Command<'a>, usize>
+    requires { ⌜ Said (now line) besides ⌝ }
+    ensures place { λ r. ⌜ placed r ≡ farther (stop 0 (gridForm «has_y» «has_t» false) (now (line .entry))) (farther (stop 0 (gridForm «has_y» «has_t» true) (now (line .entry))) (placed (besides .entry))) ⌝ }
+    ensures says { λ r. ⌜ Said (now (line .entry)) r ⌝ }
+{
+    let truths = grid(line, Shape { has_y, has_t, is_truth: true });
+    let numbers = grid(line, Shape { has_y, has_t, is_truth: false });
+    let other = either(line, truths, besides);
+    either(line, numbers, other)
+}
+
+/// A line of a form that is about strips and cells.
+fn cell_or<'a>(line: &'a [u8], besides: Result<Command<'a>, usize>) -> Result<Command<'a>, usize>
+    requires { ⌜ Said (now line) besides ⌝ }
+    ensures place { λ r. ⌜ placed r ≡ farther (stop 0 bareForm (now (line .entry))) (farther (stop 0 stripForm (now (line .entry))) (farther (stop 0 lookForm (now (line .entry))) (farther (stop 0 (countForm (codes "(show ")) (now (line .entry))) (placed (besides .entry))))) ⌝ }
+    ensures says { λ r. ⌜ Said (now (line .entry)) r ⌝ }
+{
+    let shows = either(line, show(line), besides);
+    let looks = either(line, look(line), shows);
+    let strips = either(line, strip(line), looks);
+    either(line, strip_of_none(line), strips)
+}
+
+/// A line of a form that is not about a grid's making.
+fn no_grid<'a>(line: &'a [u8]) -> Result<Command<'a>, usize>
+    ensures place { λ r. ⌜ placed r ≡ stopOver otherForms (now (line .entry)) ⌝ }
+    ensures says { λ r. ⌜ Said (now (line .entry)) r ⌝ }
+{
+    let helps = either(line, help(line), Err(0));
+    let runs = either(line, run(line), helps);
+    let checks = either(line, check(line), runs);
+    cell_or(line, checks)
+}
+
+/// The command that a line says, or the place where it stops being a form.
+pub fn parse<'a>(line: &'a [u8]) -> Result<Command<'a>, usize>
+    ensures place { λ r. ⌜ placed r ≡ stopOver forms (now (line .entry)) ⌝ }
+    ensures says { λ r. ⌜ Said (now (line .entry)) r ⌝ }
+{
+    let others = no_grid(line);
+    let both = grid_or(line, true, true, others);
+    let over_t = grid_or(line, false, true, both);
+    let over_y = grid_or(line, true, false, over_t);
+    grid_or(line, false, false, over_y)
 }
