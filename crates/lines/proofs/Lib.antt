@@ -9,3 +9,6 @@ pub mod Ranges
 pub mod Endings
 pub mod Chains
 pub mod CellTexts
+pub mod Viable
+pub mod Whole
+pub mod Stopping

@@ -1,6 +1,7 @@
 // The forms: each is a row of pieces, and answers its command, or the place where the line stops being it.
 ghost use Prim.Native.Nat.{_≤_};
 ghost use Rattle.lines.specs.Forms.{axisForm, bareForm, boundsForm, checkForm, countForm, farther, forms, gridForm, gridForms, helpForm, kindForm, lookForm, otherForms, placed, stopOver, stripForm};
+ghost use Rattle.lines.specs.Grammar.{Parsed};
 ghost use Rattle.lines.specs.Pieces.{Reads, Stops, stop};
 ghost use Rattle.lines.specs.Says.{AxisSays, Bounds as BoundsSay, KindSays, Said};
 ghost use Rattle.std.specs.Holes.{between};
@@ -255,8 +256,8 @@ fn no_grid<'a>(line: &'a [u8]) -> Result<Command<'a>, usize>
     cell_or(line, checks)
 }
 
-/// The command that a line says, or the place where it stops being a form.
-pub fn parse<'a>(line: &'a [u8]) -> Result<Command<'a>, usize>
+/// A line of any form.
+fn any_form<'a>(line: &'a [u8]) -> Result<Command<'a>, usize>
     ensures place { λ r. ⌜ placed r ≡ stopOver forms (now (line .entry)) ⌝ }
     ensures says { λ r. ⌜ Said (now (line .entry)) r ⌝ }
 {
@@ -265,4 +266,13 @@ pub fn parse<'a>(line: &'a [u8]) -> Result<Command<'a>, usize>
     let over_t = grid_or(line, false, true, both);
     let over_y = grid_or(line, true, false, over_t);
     grid_or(line, false, false, over_y)
+}
+
+/// The command that a line says, or the place where it stops being a form.
+pub fn parse<'a>(line: &'a [u8]) -> Result<Command<'a>, usize>
+    ensures place { λ r. ⌜ placed r ≡ stopOver forms (now (line .entry)) ⌝ }
+    ensures parsed { λ r. ⌜ Parsed (now (line .entry)) r ⌝ }
+    ensures says { λ r. ⌜ Said (now (line .entry)) r ⌝ }
+{
+    any_form(line)
 }

@@ -13,7 +13,7 @@ use Rattle.lines.specs.declared.command.Command.{Command}
 use Rattle.lines.specs.declared.command.Command.the-variants.{Grid, Strip, Look, Show, Check, Run, Help}
 use Rattle.lines.specs.Numerals.{cellsOf}
 use Rattle.lines.specs.Forms.{forms, stopOver}
-use Rattle.lines.specs.Format.{notAForm}
+use Rattle.written.specs.Format.{notAForm}
 use Rattle.lines.specs.Says.{Says}
 use Rattle.roofunit.specs.declared.reply.Reply.{Reply}
 use Rattle.roofunit.specs.Replies.{Plain, StripTold, LookTold, ShowTold}

@@ -12,7 +12,7 @@ use Rattle.coverage.specs.declared.refusal.Refusal.{Refusal}
 use Rattle.shelf.specs.declared.fault.ShelfFault.{ShelfFault}
 use Rattle.shelf.specs.declared.fault.MakingFault.{MakingFault}
 use Rattle.shelf.specs.Faults.{shelfRefusal, makingRefusal}
-use Rattle.lines.specs.Format.{gridLine, stripLine, cellLine, refusalLine}
+use Rattle.written.specs.Format.{gridLine, stripLine, cellLine, refusalLine}
 use Rattle.roofunit.specs.declared.reply.Reply.{Reply}
 
 -- a reply has these bytes and tells no refusal

@@ -1,5 +1,5 @@
 // Replies: the line that is printed, and the number of the refusal that it tells, if any.
-ghost use Rattle.lines.specs.Format.{notAForm};
+ghost use Rattle.written.specs.Format.{notAForm};
 ghost use Rattle.roofunit.specs.Replies.{GridTold, LookTold, Plain, Refuses, StripTold};
 ghost use Rattle.shelf.specs.Faults.{shelfRefusal};
 ghost use Rattle.std.specs.Of.String.{string-bytes};
@@ -7,11 +7,11 @@ ghost use Rattle.std.specs.Vec.{made as done};
 ghost use Rattle.std.specs.declared.option.Option.the-variants.{None};
 ghost use mathlib.Core.Path.{_≡_};
 use coverage::Refusal;
-use lines::written::cell_line;
-use lines::written::grid_line;
-use lines::written::refusal_line;
-use lines::written::stop_line;
-use lines::written::strip_line;
+use written::cell_line;
+use written::grid_line;
+use written::refusal_line;
+use written::stop_line;
+use written::strip_line;
 use shelf::MakingFault;
 use shelf::ShelfFault;
 use std::alloc::AllocError;

@@ -1,5 +1,5 @@
 // The lines that are printed.
-ghost use Rattle.lines.specs.Format.{cellLine, gridLine, layerWord, notAForm, refusalLine, returnedWords, stripLine};
+ghost use Rattle.written.specs.Format.{cellLine, gridLine, layerWord, notAForm, refusalLine, returnedWords, stripLine};
 ghost use Rattle.std.specs.Of.String.{string-bytes};
 ghost use Rattle.std.specs.Vec.{made};
 ghost use mathlib.Core.Path.{_≡_};
