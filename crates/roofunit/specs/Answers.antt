@@ -3,7 +3,8 @@ use mathlib.Core.Path.{_≡_}
 use mathlib.Core.Logic.{_⊎_}
 use mathlib.Core.List.{List}
 use Prim.Native.Nat.{ℕ}
-use Rattle.std.specs.declared.option.Option.the-variants.{Some, None}
+use lib.Chars.{codes}
+use Rattle.std.specs.declared.option.Option.the-variants.{None}
 use Rattle.std.specs.declared.result.Result.{Result}
 use Rattle.std.specs.declared.result.Result.the-variants.{Ok, Err}
 use Rattle.std.specs.declared.alloc.AllocError.{AllocError}
@@ -12,7 +13,7 @@ use Rattle.shelf.specs.Meaning.{Coverage, describeAnswer, lookAnswer, stripAnsw
 use Rattle.lines.specs.declared.command.Command.{Command}
 use Rattle.lines.specs.declared.command.Command.the-variants.{Grid, Strip, Look, Show, Check, Run, Help}
 use Rattle.lines.specs.Numerals.{cellsOf}
-use Rattle.lines.specs.Forms.{forms, stopOver}
+use Rattle.lines.specs.Grammar.{StopsAt}
 use Rattle.written.specs.Format.{notAForm}
 use Rattle.lines.specs.Says.{Says}
 use Rattle.roofunit.specs.declared.reply.Reply.{Reply}
@@ -28,14 +29,14 @@ afterCommand m (Check p text) = m
 afterCommand m (Run p) = m
 afterCommand m Help = m
 
--- what a command is told; a line of a form that does nothing to a shelf tells no refusal
+-- what a command is told: forms that do nothing to a shelf get a fixed text
 abbrev pub Told : List Coverage → Command → Reply → Type 0
-Told m (Grid name d k) p = p .refused ≡ None
+Told m (Grid name d k) p = Plain (codes "(not now: only the first grid line makes a grid)") p
 Told m (Strip c n text) p = StripTold c n (stripAnswer m c n (cellsOf (text .now))) p
 Told m (Look c at) p = LookTold (lookAnswer m c (coordinates at)) p
 Told m (Show c) p = ShowTold (describeAnswer m c) p
-Told m (Check q text) p = p .refused ≡ None
-Told m (Run q) p = p .refused ≡ None
+Told m (Check q text) p = Plain (codes "(not there yet: check)") p
+Told m (Run q) p = Plain (codes "(not there yet: run)") p
 Told m Help p = p .refused ≡ None
 
 -- a command is served: where memory for the reply fails, it was done or not done
@@ -45,7 +46,7 @@ Served m c m′ (Err e) = (m′ ≡ m) ⊎ (m′ ≡ afterCommand m c)
 
 -- a line that is no form is told where it stops being one, and leaves the shelf
 abbrev pub Stopped : List Coverage → List ℕ → List Coverage → Result Reply AllocError → Type 0
-Stopped m line m′ (Ok r) = (p : ℕ) × (stopOver forms line ≡ Some p) × (m′ ≡ m) × Plain (notAForm p) r
+Stopped m line m′ (Ok r) = (p : ℕ) × StopsAt line p × (m′ ≡ m) × Plain (notAForm p) r
 Stopped m line m′ (Err e) = m′ ≡ m
 
 -- a line is answered as the command that it says, or as no form

@@ -1,2 +1,3 @@
+pub mod Picture
 pub mod Replies
 pub mod Answers

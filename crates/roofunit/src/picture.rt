@@ -1,4 +1,11 @@
 // The picture of a coverage: a row a line, the highest y first, a heading before the rows of each t.
+ghost use Prim.Native.Nat.{_<_, _^_};
+ghost use Rattle.roofunit.specs.Picture.{column, placeUp, shown};
+ghost use Rattle.std.specs.Of.String.{string-bytes};
+ghost use Rattle.std.specs.Results.{Cases};
+ghost use Rattle.std.specs.Vec.{made};
+ghost use mathlib.Core.List.{_++_};
+ghost use mathlib.Core.Path.{_≡_};
 use coverage::Description;
 use coverage::Domain;
 use coverage::Kind;
@@ -10,9 +17,12 @@ use std::alloc::AllocError;
 use std::alloc::Global;
 
 /// The coordinate some places above the lowest of an axis; 0 where it is absent.
-fn coordinate_at(axis: Option<Range>, k: usize) -> i64 {
+fn coordinate_at(axis: Option<Range>, k: usize) -> i64
+    requires { ⌜ k < 2 ^ 63 ⌝ }
+    ensures { λ r. ⌜ r ≡ placeUp axis k ⌝ }
+{
     match axis {
-        Some(range) => range.lo.saturating_add(i64::try_from(k).unwrap_or(0)),
+        Some(range) => range.lo.saturating_add(k as i64),
         None => 0,
     }
 }
@@ -27,7 +37,9 @@ fn column_width(heap: Global, kind: Kind) -> Result<usize, AllocError> {
 }
 
 /// A cell: its value, or a dot where it is null.
-fn cell_text(heap: Global, cell: Option<i32>) -> Result<String, AllocError> {
+fn cell_text(heap: Global, cell: Option<i32>) -> Result<String, AllocError>
+    ensures { λ r. ⌜ made r (λ s. string-bytes s ≡ shown cell) ⌝ }
+{
     match cell {
         Some(v) => format!(heap, "{v}"),
         None => String::from_str(heap, "."),
@@ -35,11 +47,16 @@ fn cell_text(heap: Global, cell: Option<i32>) -> Result<String, AllocError> {
 }
 
 /// Text at the right end of a column.
-fn push_column(picture: &mut String, text: &str, width: usize) -> Result<(), AllocError> {
-    for _ in text.len()..width {
-        picture.push_str(" ")?;
+fn column_of(heap: Global, text: &str, width: usize) -> Result<String, AllocError>
+    ensures { λ r. ⌜ made r (λ s. string-bytes s ≡ column width (now (text .entry))) ⌝ }
+{
+    let mut column = String::new(heap);
+    let blanks = width.saturating_sub(text.len());
+    for _k in 0..blanks {
+        column.push_str(" ")?;
     }
-    picture.push_str(text)
+    column.push_str(text)?;
+    Ok(column)
 }
 
 /// The cells of a row, with a blank between columns.
@@ -54,7 +71,8 @@ fn push_row<S: Shelf>(heap: Global, picture: &mut String, shelf: &S, coverage: u
             Err(_) => None,
         };
         let text = cell_text(heap, cell)?;
-        push_column(picture, text.as_str(), width)?;
+        let column = column_of(heap, text.as_str(), width)?;
+        picture.push_str(column.as_str())?;
     }
     Ok(())
 }
