@@ -2,9 +2,7 @@
 ghost use Prim.Native.Nat.{_<_, _^_};
 ghost use Rattle.roofunit.specs.Picture.{column, placeUp, shown};
 ghost use Rattle.std.specs.Of.String.{string-bytes};
-ghost use Rattle.std.specs.Results.{Cases};
 ghost use Rattle.std.specs.Vec.{made};
-ghost use mathlib.Core.List.{_++_};
 ghost use mathlib.Core.Path.{_≡_};
 use coverage::Description;
 use coverage::Domain;

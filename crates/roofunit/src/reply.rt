@@ -4,7 +4,6 @@ ghost use Rattle.roofunit.specs.Replies.{GridTold, LookTold, Plain, Refuses, S
 ghost use Rattle.shelf.specs.Faults.{shelfRefusal};
 ghost use Rattle.std.specs.Of.String.{string-bytes};
 ghost use Rattle.std.specs.Vec.{made as done};
-ghost use Rattle.std.specs.declared.option.Option.the-variants.{None};
 ghost use mathlib.Core.Path.{_≡_};
 use coverage::Refusal;
 use written::cell_line;
