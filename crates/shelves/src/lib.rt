@@ -2,8 +2,6 @@
 pub mod byte_grid;
 pub mod byte_grid_calls;
 pub mod byte_grid_making;
-#[cfg(test)]
-mod fixed_tests;
 pub mod grid;
 pub mod grid_calls;
 pub mod grid_making;
