@@ -1,13 +1,12 @@
 -- What the limits give: ends in order, sizes that fit, few cells and strips.
-use mathlib.Core.Path.{_≡_, refl, sym, ap, subst, _∙_}
+use mathlib.Core.Path.{_≡_, refl, subst}
 use mathlib.Core.List.{List, [], _∷_}
-use mathlib.Core.Bool.{Bool, true, false, cond, not, _&&_}
-use Prim.Native.Nat.{ℕ, _+_, _*_, _≤_, _<_}
+use mathlib.Core.Bool.{Bool, true, false, cond, not}
+use Prim.Native.Nat.{_*_, _≤_}
 use native.Mathlib.Omega.{arith}
 use native.Mathlib.Nat.{mul-one, one-mul, mul-pos}
 use borrow.Author.Tests.{clash, leb-true, not-true}
-use lib.IntN.{ℤ, pos, negsuc}
-use lib.Signed.{leZ, _≤ℤ_}
+use lib.Signed.{leZ}
 use Rattle.std.proofs.shelf.Signed.{ints}
 use Rattle.std.proofs.shelf.Bits.{mul-le}
 use Rattle.std.specs.declared.option.Option.{Option}
@@ -16,8 +15,8 @@ use Rattle.coverage.specs.declared.range.Range.{Range}
 use Rattle.coverage.specs.declared.axis.Axis.{Axis}
 use Rattle.coverage.specs.declared.axis.Axis.the-variants.{X}
 use Rattle.coverage.specs.declared.description.Description.{Description}
-use Rattle.coverage.specs.Axes.{Extents, Ordered, Sized, across, allOver, axes, cells, cellsOver, extents, isNone, sameAxis, sizeOf}
-use Rattle.coverage.specs.Limits.{axisBounded, bounded, describable, few, isName, kindNarrow, kindOrdered, nameBytes, ordered}
+use Rattle.coverage.specs.Axes.{Extents, Ordered, Sized, axes, cells, cellsOver, extents, isNone, sameAxis, sizeOf}
+use Rattle.coverage.specs.Limits.{axisBounded, bounded, describable, few, isName, kindNarrow, kindOrdered, nameBytes}
 use Rattle.coverage.specs.Strips.{rowWidth, strips}
 use Rattle.coverage.proofs.Bools.{and-left, and-right}
 use Rattle.coverage.proofs.Points.{axis-of, each, member, present}

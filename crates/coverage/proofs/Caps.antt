@@ -1,6 +1,6 @@
 -- Products counted up to a cap: a factor that was cut off at the cap does not change the capped product.
-use mathlib.Core.Path.{_≡_, refl, sym, ap, _∙_}
-use Prim.Native.Nat.{ℕ, zero, suc, _+_, _*_, _≤_, _<_, min}
+use mathlib.Core.Path.{_≡_, sym, ap, _∙_}
+use Prim.Native.Nat.{ℕ, zero, suc, _*_, _≤_, min}
 use native.Mathlib.Omega.{arith}
 use native.Mathlib.Nat.{mul-comm, mul-assoc, mul-one, mul-zero, min-eq-left, min-eq-right}
 use lib.Dec.{leb}
@@ -14,10 +14,10 @@ cap-left k a (suc c) =
     by-test (leb a k)
     (λ e. let h : a ≤ k = leb-true a k e in ap (λ n. min (n * suc c) k) (min-eq-left h))
     (λ e.
-      let h : k ≤ a = omega (arith, leb-false a k e) in
-      let p : k ≤ k * suc c = omega (arith, mul-le k 1 k (suc c) (omega arith) (omega arith), mul-one k) in
-      let q : k ≤ a * suc c = omega (arith, mul-le k 1 a (suc c) h (omega arith), mul-one k) in
-      ap (λ n. min (n * suc c) k) (min-eq-right h) ∙ (min-eq-right p ∙ sym (min-eq-right q)))
+    let h : k ≤ a = omega (arith, leb-false a k e) in
+    let p : k ≤ k * suc c = omega (arith, mul-le k 1 k (suc c) (omega arith) (omega arith), mul-one k) in
+    let q : k ≤ a * suc c = omega (arith, mul-le k 1 a (suc c) h (omega arith), mul-one k) in
+    ap (λ n. min (n * suc c) k) (min-eq-right h) ∙ (min-eq-right p ∙ sym (min-eq-right q)))
 
 pub cap-turn : (k a b c : ℕ) → min (min (a * min b k) k * c) k ≡ min (a * (b * c)) k
 cap-turn k a b c =

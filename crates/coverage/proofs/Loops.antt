@@ -1,14 +1,13 @@
 -- A loop over the axes against the recursion over their list: what one turn, and the end, do.
-use mathlib.Core.Path.{_≡_, refl, sym, ap, _∙_}
-use mathlib.Core.List.{List, [], _∷_}
+use mathlib.Core.Path.{_≡_, ap, _∙_}
+use mathlib.Core.List.{List}
 use mathlib.Core.Bool.{Bool, true, false, _&&_}
-use Prim.Native.Nat.{ℕ, zero, suc, _+_, _*_, _≤_, _<_, min}
-use native.Mathlib.Omega.{arith}
+use Prim.Native.Nat.{ℕ, _+_, _≤_, _<_}
 use lib.ListN.{length, getD, drop}
 use Rattle.std.proofs.shelf.Lists.{at-drop-more, at-drop-all}
 use Rattle.coverage.specs.declared.axis.Axis.{Axis}
 use Rattle.coverage.specs.declared.axis.Axis.the-variants.{X}
-use Rattle.coverage.specs.Axes.{Extents, allOver, cellsOver, sizeOf}
+use Rattle.coverage.specs.Axes.{allOver}
 
 -- a test that fails on one axis fails
 pub all-fails : (f : Axis → Bool) (list : List Axis) (i : ℕ) → i < length list → f (getD list i X) ≡ false → allOver f (drop i list) ≡ false

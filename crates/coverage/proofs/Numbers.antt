@@ -1,14 +1,14 @@
 -- Cell numbers and coordinates are each other's inverse.
-use mathlib.Core.Path.{_≡_, refl, sym, ap, subst, _∙_}
+use mathlib.Core.Path.{_≡_, refl, ap, _∙_}
 use mathlib.Core.List.{List, [], _∷_}
-use mathlib.Core.Bool.{Bool, true, false, cond, _&&_, not}
-use Prim.Native.Nat.{ℕ, zero, suc, _+_, _*_, _/_, _%_, _≤_, _<_}
+use mathlib.Core.Bool.{Bool, true, false, cond, not}
+use Prim.Native.Nat.{ℕ, _+_, _*_, _/_, _%_, _<_}
 use native.Mathlib.Omega.{arith}
 use lib.IntN.{ℤ, pos, negsuc, _+ℤ_, _-ℤ_}
 use lib.Signed.{_≤ℤ_}
-use borrow.Author.Tests.{eq-eqb, not-true, clash}
+use borrow.Author.Tests.{eq-eqb, not-true}
 use Rattle.std.proofs.shelf.Signed.{ints}
-use Rattle.std.proofs.shelf.Bits.{mod-below, div-below, div-add-mod', div-mul-add, mod-mul-add, mul-add-lt}
+use Rattle.std.proofs.shelf.Bits.{div-below, div-add-mod', div-mul-add, mod-mul-add, mul-add-lt}
 use Rattle.std.specs.declared.option.Option.{Option}
 use Rattle.std.specs.declared.option.Option.the-variants.{Some, None}
 use Rattle.coverage.specs.declared.range.Range.{Range}

@@ -1,10 +1,9 @@
 -- Points in domains.
 use mathlib.Core.Path.{_≡_, refl, sym, ap, ap₂, subst, fun-ext, _∙_}
 use mathlib.Core.List.{List, [], _∷_}
-use mathlib.Core.Bool.{Bool, true, false, cond, _&&_, _||_, not}
-use Prim.Native.Nat.{ℕ, zero, suc, _+_, _*_, _/_, _%_, _≤_, _<_}
+use mathlib.Core.Bool.{Bool, true, false, cond, _&&_}
+use Prim.Native.Nat.{ℕ, _/_, _%_, _<_}
 use native.Mathlib.Omega.{arith}
-use lib.Dec.{leb, eqb}
 use lib.ListN.{getD}
 use lib.IntN.{ℤ, pos, negsuc, _+ℤ_, _-ℤ_}
 use lib.Signed.{leZ, _≤ℤ_}
@@ -16,7 +15,7 @@ use Rattle.std.specs.declared.option.Option.the-variants.{Some, None}
 use Rattle.coverage.specs.declared.range.Range.{Range}
 use Rattle.coverage.specs.declared.axis.Axis.{Axis}
 use Rattle.coverage.specs.declared.axis.Axis.the-variants.{X, Y, T}
-use Rattle.coverage.specs.Axes.{rank, axes, sameAxis, Extents, Coordinates, coordinates, origin, setAxis, put, above, width, sizeOf, isNone, sameRange, allOver, noAxes, sameDomain, insideB, onAxis, Holds, Inside, Ordered, coordOf, pointOver, pointAt}
+use Rattle.coverage.specs.Axes.{rank, axes, sameAxis, Extents, Coordinates, coordinates, origin, setAxis, put, above, width, sizeOf, isNone, sameRange, allOver, noAxes, insideB, onAxis, Holds, Inside, Ordered, coordOf, pointOver, pointAt}
 use Rattle.coverage.proofs.Bools.{and-left, and-right, and-both}
 
 abbrev pub member : Axis → List Axis → Bool
@@ -100,7 +99,6 @@ point-over-inside (b ∷ rest) d n p g a m = go (sameAxis b a) refl m (point-ove
 pub point-inside : (d : Extents) (n : ℕ) (p : Coordinates) → ((a : Axis) → Ordered (d a)) → Inside d (pointAt d n p)
 unfolding pointAt
 point-inside d n p h a = point-over-inside axes d n p h a (present a)
-
 
 -- ---- inside, as a test and as a fact
 

@@ -1,13 +1,13 @@
 -- Where strips stand, and which points they hold.
 use mathlib.Core.Path.{_≡_, refl, sym, ap, ap₂, subst, _∙_}
 use mathlib.Core.List.{List, [], _∷_}
-use mathlib.Core.Bool.{Bool, true, false, cond, _&&_, _||_}
-use Prim.Native.Nat.{ℕ, _+_, _*_, _/_, _%_, _≤_, _<_}
+use mathlib.Core.Bool.{Bool, true, false, cond, _||_}
+use Prim.Native.Nat.{ℕ, _+_, _*_, _/_, _%_, _<_}
 use native.Mathlib.Omega.{arith}
 use native.Mathlib.Nat.{mod-eq-of-lt, mul-comm, mul-one, add-zero}
 use borrow.Author.Tests.{clash}
 use lib.IntN.{ℤ, pos, _+ℤ_, _-ℤ_}
-use lib.Signed.{leZ, _≤ℤ_}
+use lib.Signed.{leZ}
 use Rattle.std.proofs.shelf.Bits.{div-below}
 use Rattle.std.proofs.shelf.Signed.{ints}
 use Rattle.std.specs.declared.option.Option.{Option}
@@ -15,7 +15,7 @@ use Rattle.std.specs.declared.option.Option.the-variants.{Some, None}
 use Rattle.coverage.specs.declared.range.Range.{Range}
 use Rattle.coverage.specs.declared.axis.Axis.{Axis}
 use Rattle.coverage.specs.declared.axis.Axis.the-variants.{X, Y, T}
-use Rattle.coverage.specs.Axes.{Extents, Coordinates, Holds, Inside, Ordered, Sized, above, across, allOver, coordOf, isNone, lowestOn, numberAt, numberOver, onAxis, origin, pointOver, put, sameAxis, sameZ, setAxis, sizeOf, stepOf, width}
+use Rattle.coverage.specs.Axes.{Extents, Coordinates, Holds, Inside, Ordered, Sized, above, across, allOver, coordOf, isNone, lowestOn, numberAt, numberOver, onAxis, origin, pointOver, sameAxis, sameZ, setAxis, sizeOf, stepOf, width}
 use Rattle.coverage.specs.Strips.{Raised, Stands, inStrip, rowWidth, stripAt, stripFirst, stripPoint, strips}
 use Rattle.coverage.proofs.Bools.{and-left, and-right, and-both}
 use Rattle.coverage.proofs.Points.{all-members, axis-of, each-over, holds-on, member, on-holds, point-over-inside, present, put-inside}

@@ -1,10 +1,10 @@
 -- One turn of the loops that count a cell's number over the axes and that find its point again.
-use mathlib.Core.Path.{_≡_, refl, sym, ap, ap₂, subst, _∙_}
+use mathlib.Core.Path.{_≡_, refl, sym, ap, ap₂, _∙_}
 use mathlib.Core.List.{List, [], _∷_}
-use mathlib.Core.Bool.{Bool, true, false, cond, not, _&&_}
-use Prim.Native.Nat.{ℕ, zero, suc, _+_, _*_, _/_, _%_, _≤_, _<_, min}
+use mathlib.Core.Bool.{Bool, true, false, cond, not}
+use Prim.Native.Nat.{ℕ, zero, suc, _+_, _*_, _/_, _%_, _≤_, _<_}
 use native.Mathlib.Omega.{arith}
-use native.Mathlib.Nat.{mul-comm, mul-assoc, mul-add, add-assoc, mul-one, mod-mod}
+use native.Mathlib.Nat.{mul-comm, mul-assoc, mul-add, mul-one, mod-mod}
 use borrow.Author.Tests.{not-true, clash}
 use lib.IntN.{ℤ, pos, _+ℤ_}
 use lib.ListN.{length, getD, drop}
@@ -15,8 +15,8 @@ use Rattle.std.specs.declared.option.Option.the-variants.{Some, None}
 use Rattle.coverage.specs.declared.range.Range.{Range}
 use Rattle.coverage.specs.declared.axis.Axis.{Axis}
 use Rattle.coverage.specs.declared.axis.Axis.the-variants.{X}
-use Rattle.coverage.specs.Axes.{Extents, Coordinates, Inside, Sized, allOver, cellsOver, coordOf, distinct, numberOver, pointOver, put, sameAxis, sizeOf, stepOf, width}
-use Rattle.coverage.proofs.Bools.{and-left, and-right, by-test}
+use Rattle.coverage.specs.Axes.{Extents, Coordinates, Inside, allOver, cellsOver, coordOf, distinct, numberOver, pointOver, put, sameAxis, sizeOf, stepOf, width}
+use Rattle.coverage.proofs.Bools.{and-left, and-right}
 use Rattle.coverage.proofs.Points.{axis-of}
 use Rattle.coverage.proofs.Numbers.{below-over, step-below}
 
@@ -56,9 +56,9 @@ module _ (list : List Axis) (d : Extents) (p : Coordinates) (i : ℕ) (inside : 
       let e : cellsOver (drop i list) d ≡ w * rest = at-drop-more F list i X here in
       let f : numberOver (drop i list) d p ≡ more * w + s = at-drop-more G list i X here in
       let split : stride * (more * w + s) ≡ stride * w * more + stride * s =
-            mul-add stride (more * w) s ∙ ap (λ m. m + stride * s) (ap (λ m. stride * m) (mul-comm more w) ∙ sym (mul-assoc stride w more)) in
+      mul-add stride (more * w) s ∙ ap (λ m. m + stride * s) (ap (λ m. stride * m) (mul-comm more w) ∙ sym (mul-assoc stride w more)) in
       let next : stride * s + stride ≤ stride * w =
-            omega (arith, mul-le stride (s + 1) stride w (omega arith) (omega (arith, step-below (d a) (p a) (inside a))), mul-add stride s 1, mul-one stride) in
+      omega (arith, mul-le stride (s + 1) stride w (omega arith) (omega (arith, step-below (d a) (p a) (inside a))), mul-add stride s 1, mul-one stride) in
       record {
         number = omega (arith, k .number, ap (λ m. stride * m) f, split);
         cells = mul-assoc stride w rest ∙ (ap (λ m. stride * m) (sym e) ∙ k .cells);

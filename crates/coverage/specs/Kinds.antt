@@ -4,7 +4,6 @@ use lib.IntN.{ℤ, pos}
 use lib.Signed.{leZ, _≤ℤ_}
 use Rattle.std.specs.declared.option.Option.{Option}
 use Rattle.std.specs.declared.option.Option.the-variants.{Some, None}
-use Rattle.coverage.specs.declared.range.Range.{Range}
 use Rattle.coverage.specs.declared.kind.Kind.{Kind}
 use Rattle.coverage.specs.declared.kind.Kind.the-variants.{Truth, Number}
 

@@ -3,7 +3,7 @@ use mathlib.Core.Bool.{Bool, true, false, _&&_, _||_, not}
 use mathlib.Core.List.{List, [], _∷_}
 use Prim.Native.Nat.{ℕ}
 use lib.Dec.{leb}
-use lib.IntN.{ℤ, pos, negsuc}
+use lib.IntN.{pos, negsuc}
 use lib.ListN.{length, take}
 use lib.Signed.{leZ}
 use Rattle.std.specs.declared.option.Option.{Option}
@@ -11,7 +11,6 @@ use Rattle.std.specs.declared.option.Option.the-variants.{Some, None}
 use Rattle.coverage.specs.declared.axis.Axis.the-variants.{X}
 use Rattle.coverage.specs.declared.range.Range.{Range}
 use Rattle.coverage.specs.declared.kind.Kind.{Kind}
-use Rattle.coverage.specs.declared.kind.Kind.the-variants.{Truth, Number}
 use Rattle.coverage.specs.declared.name.Name.{Name}
 use Rattle.coverage.specs.declared.description.Description.{Description}
 use Rattle.coverage.specs.Axes.{Extents, axes, allOver, cells, extents, isNone}

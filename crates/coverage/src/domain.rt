@@ -51,9 +51,21 @@ impl Point {
         ensures { λ r. ⌜ ((a : AnAxis) → coordinates r a ≡ put (coordinates self) axis v a) ⌝ }
     {
         match axis {
-            Axis::X => Point { x: v, y: self.y, t: self.t },
-            Axis::Y => Point { x: self.x, y: v, t: self.t },
-            Axis::T => Point { x: self.x, y: self.y, t: v },
+            Axis::X => Point {
+                x: v,
+                y: self.y,
+                t: self.t,
+            },
+            Axis::Y => Point {
+                x: self.x,
+                y: v,
+                t: self.t,
+            },
+            Axis::T => Point {
+                x: self.x,
+                y: self.y,
+                t: v,
+            },
         }
     }
 }

@@ -10,12 +10,12 @@ use Rattle.std.specs.declared.option.Option.{Option}
 use Rattle.std.specs.declared.option.Option.the-variants.{Some, None}
 use Rattle.std.specs.declared.result.Result.{Result}
 use Rattle.std.specs.declared.result.Result.the-variants.{Ok, Err}
-use Rattle.coverage.specs.Axes.{Coordinates, extents, insideB}
+use Rattle.coverage.specs.Axes.{Coordinates, insideB}
 use Rattle.coverage.specs.Strips.{rowWidth, strips}
 use Rattle.shelf.specs.declared.fault.ShelfFault.{ShelfFault}
-use Rattle.shelf.specs.declared.fault.ShelfFault.the-variants.{NoCoverage, Outside, Fixed, NoStrip, Unfit, AlreadyThere}
+use Rattle.shelf.specs.declared.fault.ShelfFault.the-variants.{Outside, Fixed, NoStrip, Unfit, AlreadyThere}
 use Rattle.shelf.specs.Faults.{renumbered, told}
-use Rattle.shelf.specs.Meaning.{Coverage, allFit, answerOf, cellAt, described, domainOf, faultAt, first, looked, shapeFault, stripThere}
+use Rattle.shelf.specs.Meaning.{Coverage, allFit, answerOf, cellAt, described, domainOf, faultAt, first, looked, stripThere}
 
 pub described-told : (o : Option Coverage) (c c′ : ℕ) → described o c ≡ told (described o c′) c 0
 described-told None c c′ = refl

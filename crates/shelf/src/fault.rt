@@ -1,3 +1,4 @@
+ghost use Rattle.coverage.specs.declared.refusal.Layer.the-variants.{Shelf as ShelfLayer};
 ghost use Rattle.shelf.specs.Faults.{makingRefusal, renumbered, shelfRefusal};
 ghost use mathlib.Core.Path.{_≡_};
 use coverage::Layer;
@@ -48,12 +49,18 @@ impl ShelfFault {
         ensures { λ r. ⌜ r ≡ shelfRefusal self ⌝ }
     {
         match self {
-            ShelfFault::NoCoverage(coverage, strip) => shelf_says(14, Returned::Two(coverage, strip)),
+            ShelfFault::NoCoverage(coverage, strip) => shelf_says(
+                14,
+                Returned::Two(coverage, strip),
+            ),
             ShelfFault::Outside(coverage) => shelf_says(15, Returned::Two(coverage, 0)),
             ShelfFault::Fixed(coverage, strip) => shelf_says(16, Returned::Two(coverage, strip)),
             ShelfFault::NoStrip(coverage, strip) => shelf_says(17, Returned::Two(coverage, strip)),
             ShelfFault::Unfit(coverage, strip) => shelf_says(18, Returned::Two(coverage, strip)),
-            ShelfFault::AlreadyThere(coverage, strip) => shelf_says(19, Returned::Two(coverage, strip)),
+            ShelfFault::AlreadyThere(coverage, strip) => shelf_says(
+                19,
+                Returned::Two(coverage, strip),
+            ),
         }
     }
 }
@@ -74,11 +81,13 @@ impl MakingFault {
     }
 }
 
-ghost use Rattle.coverage.specs.declared.refusal.Layer.the-variants.{Shelf as ShelfLayer};
-
 /// A refusal of the shelf's layer.
 fn shelf_says(number: u32, returned: Returned) -> Refusal
     ensures { λ r. ⌜ r ≡ record { layer = ShelfLayer; number = number; returned = returned } ⌝ }
 {
-    Refusal { layer: Layer::Shelf, number, returned }
+    Refusal {
+        layer: Layer::Shelf,
+        number,
+        returned,
+    }
 }

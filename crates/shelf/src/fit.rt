@@ -40,7 +40,12 @@ fn is_row(about: Description, cells: &[i32]) -> bool
 
 /// Why a strip does not fit a coverage, or nothing: the coverage is fixed, it has no such strip, the
 /// strip has a wrong length or a cell outside the kind.
-pub fn shape_fault(about: Description, coverage: usize, strip: usize, cells: &[i32]) -> Option<ShelfFault>
+pub fn shape_fault(
+    about: Description,
+    coverage: usize,
+    strip: usize,
+    cells: &[i32],
+) -> Option<ShelfFault>
     requires { ⌜ describable about ≡ true ⌝ }
     ensures { λ r. ⌜ r ≡ shapeFault about coverage strip (now (cells .entry)) ⌝ }
 {

@@ -1,17 +1,15 @@
 -- The received grid: its memory stays lawful, its meaning is lawful, and a row written is a strip put.
 use mathlib.Core.Path.{_≡_, refl, sym, ap, ap₂, subst, _∙_, fun-ext}
 use mathlib.Core.List.{List, [], _∷_}
-use mathlib.Core.Bool.{Bool, true, false, cond, not, _&&_, _||_}
-use Prim.Native.Nat.{ℕ, _+_, _*_, _/_, _-_, _≤_, _<_}
+use mathlib.Core.Bool.{Bool, true, false, cond, not, _||_}
+use Prim.Native.Nat.{ℕ, _+_, _*_, _/_, _≤_, _<_}
 use native.Mathlib.Omega.{arith}
 use native.Mathlib.Nat.{mul-comm, add-mul, one-mul, add-zero}
 use borrow.Author.Tests.{both-ways, clash, eqb-true, eq-eqb, ltb-true, ltb-false}
-use lib.Dec.{eqb, ltb}
-use lib.IntN.{ℤ, pos, negsuc, _-ℤ_}
-use lib.Signed.{_≤ℤ_}
+use lib.Dec.{ltb}
+use lib.IntN.{ℤ, pos}
 use lib.ListN.{length, getD, replicate, length-replicate}
 use lib.Seq.{paste}
-use Rattle.std.proofs.shelf.Signed.{ints}
 use Rattle.std.proofs.shelf.Lists.{getD-replicate}
 use Rattle.std.proofs.shelf.Bits.{mul-le, mul-add-lt, div-mul-add, le-div, div-add-mod'}
 use Rattle.std.specs.Finite.{nth}
@@ -20,11 +18,10 @@ use Rattle.std.specs.declared.option.Option.{Option}
 use Rattle.std.specs.declared.option.Option.the-variants.{Some, None}
 use Rattle.std.specs.declared.result.Result.{Result}
 use Rattle.std.specs.declared.result.Result.the-variants.{Ok, Err}
-use Rattle.coverage.specs.declared.range.Range.{Range}
 use Rattle.coverage.specs.declared.axis.Axis.{Axis}
 use Rattle.coverage.specs.declared.axis.Axis.the-variants.{X}
 use Rattle.coverage.specs.declared.description.Description.{Description}
-use Rattle.coverage.specs.Axes.{Coordinates, Extents, Inside, Ordered, above, cells, extents, insideB, isNone, numberAt, sizeOf, stepOf}
+use Rattle.coverage.specs.Axes.{Coordinates, Extents, Ordered, cells, extents, insideB, numberAt, stepOf}
 use Rattle.coverage.specs.Kinds.{Within, fits}
 use Rattle.coverage.specs.Limits.{describable}
 use Rattle.coverage.specs.Strips.{inStrip, rowWidth, stripAt, stripFirst, strips}
@@ -32,16 +29,16 @@ use Rattle.coverage.proofs.Bools.{and-left, and-right, and-both, by-test}
 use Rattle.coverage.proofs.Points.{inside-from, inside-test}
 use Rattle.coverage.proofs.Numbers.{number-below, size-some, step-below}
 use Rattle.coverage.proofs.Standing.{in-strip, in-own-strip, number-by-strip, strip-first}
-use Rattle.coverage.proofs.Bounds.{Describable, bounded-ordered, describable-by, few-cells}
+use Rattle.coverage.proofs.Bounds.{bounded-ordered, describable-by}
 use Rattle.shelf.specs.declared.fault.ShelfFault.{ShelfFault}
 use Rattle.shelf.specs.declared.fault.ShelfFault.the-variants.{AlreadyThere, Outside}
-use Rattle.shelf.specs.Meaning.{Coverage, allFit, cellAt, edited, faultAt, first, lookAnswer, looked, putStrip, settled, shapeFault, stripAfter, stripAnswer, stripFault, stripThere}
+use Rattle.shelf.specs.Meaning.{Coverage, allFit, cellAt, edited, faultAt, first, lookAnswer, looked, putStrip, shapeFault, stripAfter, stripAnswer, stripFault, stripThere}
 use Rattle.shelf.specs.Laws.{Lawful, LawfulCoverage}
-use Rattle.shelf.proofs.Settled.{settled-inside, settled-number, settled-in-strip}
+use Rattle.shelf.proofs.Settled.{settled-inside, settled-number}
 use Rattle.shelf.proofs.Fits.{fit-each, shape-fits}
 use Rattle.shelf.proofs.Single.{accepted-is, none-lawful, one-lawful}
 use Rattle.shelf_laws.specs.Grid.{aboutOk, cellOk, gridCoverage, gridMeaning, isNull, known, lengthOk, null, rowOk}
-use Rattle.shelf_laws.proofs.Cells.{fit-not-null, known-null, known-value, some-known, within-known}
+use Rattle.shelf_laws.proofs.Cells.{fit-not-null, known-value, some-known, within-known}
 use Rattle.shelf_laws.proofs.Pastes.{by-place, paste-above, paste-below, paste-in, paste-long}
 
 abbrev pub cellOf : List ℤ → ℕ → ℤ
@@ -133,7 +130,7 @@ grid-lawful a cs k =
     let d = extents (a .domain) in
     let good = kept-ordered a cs k in
     let marked : (n : ℕ) → n < strips d → (p : Coordinates) → inStrip d n p ≡ true → isSome (cellAt (gridCoverage a cs) p) ≡ not (isNull (cellOf cs (n * rowWidth d))) =
-          λ n h p e. let s = in-strip d good n p h e in mark-of a cs p k (inside-test d p (s .0)) ∙ ap (λ i. not (isNull (cellOf cs (i * rowWidth d)))) (s .1) in
+    λ n h p e. let s = in-strip d good n p h e in mark-of a cs p k (inside-test d p (s .0)) ∙ ap (λ i. not (isNull (cellOf cs (i * rowWidth d)))) (s .1) in
     record {
       described = k .described;
       cells-fit = λ p e. subst (Within (a .kind)) (sym (look-inside a cs p e)) (within-known (a .kind) (cellOf cs (numberAt d p)) (k .fit (numberAt d p) (omega (arith, number-below d p (inside-from d p e), k .long))));
@@ -171,8 +168,8 @@ module _ (a : Description) (cs row : List ℤ) (n : ℕ) (k : Kept a cs) (there 
       by-place from (length row) i
       (λ l. kept (sym (paste-below cs from row i (pos 0) row-room l)))
       (λ j l e.
-        let g : cellOf row j ≡ cellOf written i = sym (paste-in cs from row j (pos 0) row-room l) ∙ ap (cellOf written) e in
-        subst P g (ap₂ (λ b c. b || c) (row-full j l) (fit-each (a .kind) row fit j l)))
+      let g : cellOf row j ≡ cellOf written i = sym (paste-in cs from row j (pos 0) row-room l) ∙ ap (cellOf written) e in
+      subst P g (ap₂ (λ b c. b || c) (row-full j l) (fit-each (a .kind) row fit j l)))
       (λ l. kept (sym (paste-above cs from row i (pos 0) row-room l)))
 
   whole-put : (i : ℕ) → i < length written → isNull (cellOf written i) ≡ isNull (cellOf written (firstOf (extents (a .domain)) i))
@@ -184,18 +181,18 @@ module _ (a : Description) (cs row : List ℤ) (n : ℕ) (k : Kept a cs) (there 
       let was = k .whole i (omega (arith, paste-long cs from row row-room)) in
       by-place from (length row) i
       (λ l.
-        let f : i / w * w < from = omega (arith, div-add-mod' i w) in
-        ap isNull (paste-below cs from row i (pos 0) row-room l) ∙ (was ∙ sym (ap isNull (paste-below cs from row (i / w * w) (pos 0) row-room f))))
+      let f : i / w * w < from = omega (arith, div-add-mod' i w) in
+      ap isNull (paste-below cs from row i (pos 0) row-room l) ∙ (was ∙ sym (ap isNull (paste-below cs from row (i / w * w) (pos 0) row-room f))))
       (λ j l e.
-        let q : i / w ≡ n = ap (λ m. m / w) (sym e) ∙ div-mul-add n w j (omega arith) in
-        let first : cellOf written (i / w * w) ≡ cellOf row 0 = ap (cellOf written) (ap (λ m. m * w) q ∙ sym (add-zero from)) ∙ paste-in cs from row 0 (pos 0) row-room (omega arith) in
-        let here : cellOf written i ≡ cellOf row j = ap (cellOf written) (sym e) ∙ paste-in cs from row j (pos 0) row-room l in
-        ap isNull here ∙ (row-full j l ∙ sym (ap isNull first ∙ row-full 0 (omega arith))))
+      let q : i / w ≡ n = ap (λ m. m / w) (sym e) ∙ div-mul-add n w j (omega arith) in
+      let first : cellOf written (i / w * w) ≡ cellOf row 0 = ap (cellOf written) (ap (λ m. m * w) q ∙ sym (add-zero from)) ∙ paste-in cs from row 0 (pos 0) row-room (omega arith) in
+      let here : cellOf written i ≡ cellOf row j = ap (cellOf written) (sym e) ∙ paste-in cs from row j (pos 0) row-room l in
+      ap isNull here ∙ (row-full j l ∙ sym (ap isNull first ∙ row-full 0 (omega arith))))
       (λ l.
-        let m = le-div (n + 1) i w wp (omega (arith, add-mul n 1 w, one-mul w)) in
-        let p = mul-le (n + 1) w (i / w) w m (omega arith) in
-        let f : from + length row ≤ i / w * w = omega (arith, add-mul n 1 w, one-mul w, p) in
-        ap isNull (paste-above cs from row i (pos 0) row-room l) ∙ (was ∙ sym (ap isNull (paste-above cs from row (i / w * w) (pos 0) row-room f))))
+      let m = le-div (n + 1) i w wp (omega (arith, add-mul n 1 w, one-mul w)) in
+      let p = mul-le (n + 1) w (i / w) w m (omega arith) in
+      let f : from + length row ≤ i / w * w = omega (arith, add-mul n 1 w, one-mul w, p) in
+      ap isNull (paste-above cs from row i (pos 0) row-room l) ∙ (was ∙ sym (ap isNull (paste-above cs from row (i / w * w) (pos 0) row-room f))))
 
   -- the memory stays lawful
   pub kept-put : Kept a written
@@ -219,30 +216,30 @@ module _ (a : Description) (cs row : List ℤ) (n : ℕ) (k : Kept a cs) (there 
       let old : Option ℤ = cond (insideB d p) (known (cellOf cs i)) None in
       by-test (inStrip d n p)
       (λ e.
-        let s = in-strip d good n p there e in
-        let l : j < length row = omega (arith, step-below (d X) (p X) (s .0 X)) in
-        let g : cellOf written i ≡ cellOf row j = ap (cellOf written) (number-by-strip d p ∙ ap (λ m. m * w + j) (s .1)) ∙ paste-in cs from row j (pos 0) row-room l in
-        ap (λ b. cond b (known (cellOf written i)) None) (inside-test d p (s .0)) ∙ (ap known g ∙ (known-value (cellOf row j) (row-full j l)
-        ∙ sym (ap (λ b. cond b (S (cellOf row j)) old) e))))
+      let s = in-strip d good n p there e in
+      let l : j < length row = omega (arith, step-below (d X) (p X) (s .0 X)) in
+      let g : cellOf written i ≡ cellOf row j = ap (cellOf written) (number-by-strip d p ∙ ap (λ m. m * w + j) (s .1)) ∙ paste-in cs from row j (pos 0) row-room l in
+      ap (λ b. cond b (known (cellOf written i)) None) (inside-test d p (s .0)) ∙ (ap known g ∙ (known-value (cellOf row j) (row-full j l)
+      ∙ sym (ap (λ b. cond b (S (cellOf row j)) old) e))))
       (λ e.
-        let right : putStrip (gridCoverage a cs) n row .cell p ≡ old = ap (λ b. cond b (S (cellOf row j)) old) e in
-        by-test (insideB d p)
-        (λ f.
-          let inside = inside-from d p f in
-          let l = step-below (d X) (p X) (inside X) in
-          let off : stripAt d p ≡ n → ⊥ = λ q. both-ways _ e (ap (λ m. inStrip d m p) (sym q) ∙ in-own-strip d good p inside) in
-          let g : cellOf written i ≡ cellOf cs i =
-                by-test (ltb (stripAt d p) n)
-                (λ q.
-                  let m = mul-add-lt (stripAt d p) w j n (ltb-true _ _ q) l in
-                  paste-below cs from row i (pos 0) row-room (omega (arith, number-by-strip d p, m, mul-comm w n)))
-                (λ q.
-                  let o = ltb-false _ _ q in
-                  let u : n < stripAt d p = omega (arith, off) in
-                  let m = mul-le (n + 1) w (stripAt d p) w (omega arith) (omega arith) in
-                  paste-above cs from row i (pos 0) row-room (omega (arith, number-by-strip d p, m, add-mul n 1 w, one-mul w, wide))) in
-          ap (λ v. cond (insideB d p) (known v) None) g ∙ sym right)
-        (λ f. ap (λ b. cond b (known (cellOf written i)) None) f ∙ (sym (ap (λ b. cond b (known (cellOf cs i)) None) f) ∙ sym right)))
+      let right : putStrip (gridCoverage a cs) n row .cell p ≡ old = ap (λ b. cond b (S (cellOf row j)) old) e in
+      by-test (insideB d p)
+      (λ f.
+      let inside = inside-from d p f in
+      let l = step-below (d X) (p X) (inside X) in
+      let off : stripAt d p ≡ n → ⊥ = λ q. both-ways _ e (ap (λ m. inStrip d m p) (sym q) ∙ in-own-strip d good p inside) in
+      let g : cellOf written i ≡ cellOf cs i =
+      by-test (ltb (stripAt d p) n)
+      (λ q.
+      let m = mul-add-lt (stripAt d p) w j n (ltb-true _ _ q) l in
+      paste-below cs from row i (pos 0) row-room (omega (arith, number-by-strip d p, m, mul-comm w n)))
+      (λ q.
+      let o = ltb-false _ _ q in
+      let u : n < stripAt d p = omega (arith, off) in
+      let m = mul-le (n + 1) w (stripAt d p) w (omega arith) (omega arith) in
+      paste-above cs from row i (pos 0) row-room (omega (arith, number-by-strip d p, m, add-mul n 1 w, one-mul w, wide))) in
+      ap (λ v. cond (insideB d p) (known v) None) g ∙ sym right)
+      (λ f. ap (λ b. cond b (known (cellOf written i)) None) f ∙ (sym (ap (λ b. cond b (known (cellOf cs i)) None) f) ∙ sym right)))
 
   -- a row written in the memory is the strip put in the coverage, and all else left
   pub put-is : gridCoverage a written ≡ putStrip (gridCoverage a cs) n row
@@ -275,9 +272,9 @@ blank-is a cs h e =
     let d = extents (a .domain) in
     let make : (Coordinates → Option ℤ) → Coverage = λ f. record { about = a; cell = f } in
     let at : (p : Coordinates) → gridCoverage a cs .cell p ≡ None =
-          λ p. by-test (insideB d p)
-          (λ f. ap₂ (λ b v. cond b (known v) None) f (ap (λ xs. cellOf xs (numberAt d p)) e ∙ blank-cell (cells d) (numberAt d p) (number-below d p (inside-from d p f))))
-          (λ f. ap (λ b. cond b (known (cellOf cs (numberAt d p))) None) f) in
+    λ p. by-test (insideB d p)
+    (λ f. ap₂ (λ b v. cond b (known v) None) f (ap (λ xs. cellOf xs (numberAt d p)) e ∙ blank-cell (cells d) (numberAt d p) (number-below d p (inside-from d p f))))
+    (λ f. ap (λ b. cond b (known (cellOf cs (numberAt d p))) None) f) in
     ap make (fun-ext at)
 
 -- ---- the calls of a grid that has a coverage
@@ -315,6 +312,8 @@ taken-is o a cs row new c n is zero k e t put =
     let f = shape-fits a c n row e in
     let none = fault-there o a cs c is zero n row false e t in
     let r = accepted-is (gridMeaning o cs) c n row none in
-    let one : Coverage → List Coverage = λ x. x ∷ [] in
-    (r .0, (ap (λ x. gridMeaning x new) is ∙ (ap (λ m. one (gridCoverage a m)) put ∙ (ap one (put-is a cs row n k (f .below) (f .wide) (f .fit))
-      ∙ sym (ap₂ (λ x i. edited (gridMeaning x cs) i (λ y. putStrip y n row)) is zero)))) ∙ r .1)
+    let one : Coverage → List Coverage = λ x. x ∷ [] in (
+      r .0,
+      (ap (λ x. gridMeaning x new) is ∙ (ap (λ m. one (gridCoverage a m)) put ∙ (ap one (put-is a cs row n k (f .below) (f .wide) (f .fit))
+          ∙ sym (ap₂ (λ x i. edited (gridMeaning x cs) i (λ y. putStrip y n row)) is zero)))) ∙ r .1,
+    )

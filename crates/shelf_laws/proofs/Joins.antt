@@ -1,8 +1,7 @@
 -- The calls of a join, by those of its two shelves, and its laws.
 use mathlib.Core.Path.{_≡_, refl, sym, ap, _∙_}
-use mathlib.Core.List.{List, [], _∷_, _++_}
-use mathlib.Core.Bool.{Bool, true, false, cond}
-use Prim.Native.Nat.{ℕ, zero, suc, _+_, _-_, _≤_, _<_}
+use mathlib.Core.List.{List, _++_}
+use Prim.Native.Nat.{ℕ, _-_, _≤_, _<_}
 use native.Mathlib.Omega.{arith}
 use borrow.Author.Tests.{ltb-true, ltb-false}
 use lib.Dec.{ltb}
@@ -18,7 +17,7 @@ use Rattle.coverage.proofs.Bools.{by-test}
 use Rattle.shelf.specs.declared.fault.ShelfFault.{ShelfFault}
 use Rattle.shelf.specs.declared.fault.ShelfFault.the-variants.{NoCoverage}
 use Rattle.shelf.specs.Faults.{told}
-use Rattle.shelf.specs.Meaning.{Coverage, afterOf, answerOf, describeAnswer, described, edited, faultAt, lookAnswer, looked, putStrip, stripAfter, stripAnswer, stripFault}
+use Rattle.shelf.specs.Meaning.{Coverage, afterOf, answerOf, describeAnswer, described, faultAt, lookAnswer, looked, putStrip, stripAfter, stripAnswer, stripFault}
 use Rattle.shelf.specs.Laws.{Lawful}
 use Rattle.shelf.proofs.Numbers.{answer-told, described-told, fault-told, looked-told, toldFault}
 use Rattle.shelf_laws.specs.Join.{joined}
@@ -85,7 +84,7 @@ joined-lawful a b la lb = record {
   each = λ c k e.
       by-test (ltb c 8)
       (λ t. by-test (ltb c (length a))
-        (λ u. let p = ltb-true _ _ u in la .each c k (sym (at-left a b c (la .at-most-eight) p) ∙ e))
-        (λ u. lb .each (c - length a) k (sym (at-right a b c (ltb-true _ _ t) (ltb-false _ _ u)) ∙ e)))
+      (λ u. let p = ltb-true _ _ u in la .each c k (sym (at-left a b c (la .at-most-eight) p) ∙ e))
+      (λ u. lb .each (c - length a) k (sym (at-right a b c (ltb-true _ _ t) (ltb-false _ _ u)) ∙ e)))
       (λ t. absurd (let n = at-past a b c (ltb-false _ _ t) in let z : _≡_ {A = ℕ} 0 1 = cc in omega arith));
 }

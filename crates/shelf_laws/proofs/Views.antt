@@ -1,8 +1,8 @@
 -- The calls of a window, by the view that its code works with.
-use mathlib.Core.Path.{_≡_, refl, sym, ap, ap₂, subst, _∙_}
+use mathlib.Core.Path.{_≡_, sym, ap, ap₂, subst, _∙_}
 use mathlib.Core.List.{List, [], _∷_}
 use mathlib.Core.Bool.{Bool, true, false, cond}
-use Prim.Native.Nat.{ℕ, zero, suc, _≤_, _<_}
+use Prim.Native.Nat.{ℕ, _≤_, _<_}
 use native.Mathlib.Omega.{arith}
 use lib.IntN.{ℤ}
 use lib.ListN.{length}
@@ -14,7 +14,7 @@ use Rattle.std.specs.declared.result.Result.{Result}
 use Rattle.std.specs.declared.result.Result.the-variants.{Ok, Err}
 use Rattle.coverage.specs.declared.axis.Axis.{Axis}
 use Rattle.coverage.specs.declared.description.Description.{Description}
-use Rattle.coverage.specs.Axes.{Coordinates, Extents, Inside, Ordered, Sized, cells, extents, insideB}
+use Rattle.coverage.specs.Axes.{Coordinates, Extents, Inside, Ordered, Sized, extents, insideB}
 use Rattle.coverage.specs.Limits.{describable, nameBytes}
 use Rattle.coverage.specs.Strips.{stripAt, stripFirst, strips}
 use Rattle.coverage.proofs.Points.{inside-from, inside-test}
@@ -25,12 +25,12 @@ use Rattle.shelf.specs.declared.fault.ShelfFault.the-variants.{Fixed, NoStrip, 
 use Rattle.shelf.specs.declared.fault.MakingFault.{MakingFault}
 use Rattle.shelf.specs.declared.fault.MakingFault.the-variants.{OutOfBounds}
 use Rattle.shelf.specs.Faults.{told}
-use Rattle.shelf.specs.Meaning.{Coverage, describeAnswer, described, domainOf, findAnswer, lookAnswer, raised, stripAfter, stripAnswer}
+use Rattle.shelf.specs.Meaning.{Coverage, describeAnswer, described, domainOf, findAnswer, lookAnswer, stripAfter, stripAnswer}
 use Rattle.shelf.specs.Laws.{Lawful, LawfulCoverage}
 use Rattle.shelf.proofs.Single.{refused-is}
 use Rattle.shelf_laws.specs.declared.cut.Cut.{Cut}
 use Rattle.shelf_laws.specs.declared.cut.View.{View}
-use Rattle.shelf_laws.specs.Window.{cutAbout, cutDomain, cutFits, seen, stripBelow, viewOn, windowMeaning}
+use Rattle.shelf_laws.specs.Window.{cutAbout, cutFits, seen, stripBelow, viewOn, windowMeaning}
 use Rattle.shelf_laws.proofs.Windows.{seen-inside, seen-lawful}
 use Rattle.shelf_laws.proofs.WindowCalls.{Viewed, fault-fixed, fault-no-strip, look-beyond, look-shown, strip-through, viewed, window-is}
 
@@ -129,7 +129,7 @@ module _ (m : List Coverage) (c : ℕ) (cut : Cut) (v : View) (shown : Ok v ≡ 
     view-no-strip n cs r h =
         subst (λ (j : ℕ). (Err (NoStrip j n) ≡ stripAnswer (windowMeaning m c cut) j n cs) × (windowMeaning m c cut ≡ stripAfter (windowMeaning m c cut) j n cs)) (sym first)
         (refused-is (windowMeaning m c cut) 0 n cs (NoStrip 0 n)
-          (fault-no-strip m c cut (is .below) (is .there) (is .fits) below-lawful n cs (ap (λ (a : Description). a .receives) (sym (is .about)) ∙ r) (subst (λ (d : Extents). strips d ≤ n) part-domain h)))
+        (fault-no-strip m c cut (is .below) (is .there) (is .fits) below-lawful n cs (ap (λ (a : Description). a .receives) (sym (is .about)) ∙ r) (subst (λ (d : Extents). strips d ≤ n) part-domain h)))
 
     -- a strip that the window has: the answer and what is left are those of the strip below
     pub view-through : (n s : ℕ) (cs : List ℤ) (after : List Coverage) → n < strips (extents (v .about .domain)) →

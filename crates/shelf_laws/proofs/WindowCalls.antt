@@ -1,5 +1,5 @@
 -- The calls of a window, by those of the shelf below.
-use mathlib.Core.Path.{_≡_, refl, sym, ap, ap₂, subst, _∙_}
+use mathlib.Core.Path.{_≡_, refl, sym, ap, ap₂, _∙_}
 use mathlib.Core.List.{List, [], _∷_}
 use mathlib.Core.Bool.{Bool, true, false, cond, _&&_}
 use Prim.Native.Nat.{ℕ, zero, suc, _≤_, _<_}
@@ -22,7 +22,7 @@ use Rattle.shelf.specs.declared.fault.MakingFault.{MakingFault}
 use Rattle.shelf.specs.declared.fault.MakingFault.the-variants.{OutOfBounds, NoCoverage as NoSuch}
 use Rattle.shelf.specs.Faults.{told}
 use Rattle.shelf.specs.Meaning.{Coverage, afterOf, allFit, answerOf, cellAt, describeAnswer, described, domainOf, edited, faultAt, first, lookAnswer, looked, putStrip, stripAfter, stripAnswer, stripFault, stripThere}
-use Rattle.shelf.specs.Laws.{Lawful, LawfulCoverage}
+use Rattle.shelf.specs.Laws.{LawfulCoverage}
 use Rattle.shelf.proofs.Numbers.{answer-told, tests-told, toldFault}
 use Rattle.shelf.proofs.Single.{refused-is}
 use Rattle.shelf_laws.specs.declared.cut.Cut.{Cut}
@@ -113,7 +113,7 @@ module _ (m : List Coverage) (c : ℕ) (cut : Cut) (k : Coverage) (there : nth m
       ∙ (ap₂ (λ p t. tested r true p t 0 n) wide (seen-there k cut law fit n h)
       ∙ (tests-told r true (rowFits k cs) (stripThere k s) 0 c n s
       ∙ sym (ap (λ o. toldFault (faultAt o c s cs) 0 n) there
-        ∙ ap (λ w. toldFault (tested r w (rowFits k cs) (stripThere k s) c s) 0 n) (lt-ltb s (strips (domainOf k)) (seen-below k cut law fit n h))))))
+      ∙ ap (λ w. toldFault (tested r w (rowFits k cs) (stripThere k s) c s) 0 n) (lt-ltb s (strips (domainOf k)) (seen-below k cut law fit n h))))))
 
   nth-edited : (xs : List Coverage) (i : ℕ) (x : Coverage) (f : Coverage → Coverage) → nth xs i ≡ Some x → nth (edited xs i f) i ≡ Some (f x)
   nth-edited [] zero x f e = absurd (let z : _≡_ {A = ℕ} 0 1 = cc in omega arith)
@@ -195,6 +195,7 @@ window-refused (Some k) c cut f h = go (cutFits (domainOf k) cut) h
   where
     view-of : View
     view-of = record { whole = k .about .domain; about = seen k cut .about }
+
     go : (b : Bool) → Err f ≡ cond b (Ok view-of) (Err OutOfBounds) → Err f ≡ makingAnswer (cond b None (Some OutOfBounds))
     go true e = absurd (let z : _≡_ {A = ℕ} 0 1 = cc in omega arith)
     go false e = let q : f ≡ OutOfBounds = cc in let err : MakingFault → Result (Unit {0}) MakingFault = λ x. Err x in ap err q

@@ -2,34 +2,30 @@
 use mathlib.Core.Path.{_≡_, refl, sym, ap, ap₂, subst, _∙_, fun-ext}
 use mathlib.Core.List.{List, [], _∷_}
 use mathlib.Core.Bool.{Bool, true, false, cond, not, _&&_, _||_}
-use Prim.Native.Nat.{ℕ, zero, suc, _+_, _*_, _≤_, _<_}
+use Prim.Native.Nat.{ℕ, _≤_, _<_}
 use native.Mathlib.Omega.{arith}
-use borrow.Author.Tests.{clash, le-leb, lt-ltb, not-true}
-use lib.Dec.{eqb, leb, ltb}
+use borrow.Author.Tests.{clash, le-leb}
 use lib.IntN.{ℤ, pos, negsuc, _+ℤ_, _-ℤ_}
 use lib.Signed.{leZ, _≤ℤ_}
-use lib.ListN.{length, getD}
+use lib.ListN.{getD}
 use Rattle.std.proofs.shelf.Bits.{mul-le}
 use Rattle.std.proofs.shelf.Signed.{ints}
 use Rattle.std.specs.Finite.{nth}
 use Rattle.std.specs.Options.{isSome}
 use Rattle.std.specs.declared.option.Option.{Option}
 use Rattle.std.specs.declared.option.Option.the-variants.{Some, None}
-use Rattle.std.specs.declared.result.Result.{Result}
-use Rattle.std.specs.declared.result.Result.the-variants.{Ok, Err}
 use Rattle.coverage.specs.declared.axis.Axis.{Axis}
 use Rattle.coverage.specs.declared.axis.Axis.the-variants.{X, Y, T}
 use Rattle.coverage.specs.declared.range.Range.{Range}
 use Rattle.coverage.specs.declared.domain.Domain.{Domain}
-use Rattle.coverage.specs.declared.description.Description.{Description}
-use Rattle.coverage.specs.Axes.{Coordinates, Extents, Holds, Inside, Ordered, above, across, allOver, axes, cells, cellsOver, extents, insideB, isNone, lowestOn, onAxis, put, sameAxis, sameZ, sizeOf, stepOf, width}
+use Rattle.coverage.specs.Axes.{Coordinates, Extents, Holds, Inside, Ordered, above, across, axes, cells, cellsOver, extents, insideB, isNone, lowestOn, onAxis, put, sameAxis, sameZ, sizeOf, stepOf}
 use Rattle.coverage.specs.Kinds.{Within}
-use Rattle.coverage.specs.Limits.{axisBounded, bounded, describable, few, isName, kindNarrow, kindOrdered, nameBytes, ordered}
-use Rattle.coverage.specs.Strips.{inStrip, rowWidth, stripAt, stripFirst, stripPoint, strips}
+use Rattle.coverage.specs.Limits.{axisBounded, bounded, few, isName, kindNarrow, kindOrdered, nameBytes}
+use Rattle.coverage.specs.Strips.{inStrip, stripAt, stripFirst, stripPoint, strips}
 use Rattle.coverage.proofs.Bools.{and-left, and-right, and-both, by-test}
 use Rattle.coverage.proofs.Points.{all-over, all-same, each, each-over, inside-from, inside-test, member}
 use Rattle.coverage.proofs.Numbers.{below-over}
-use Rattle.coverage.proofs.Standing.{alike, first-strip, in-own-strip, sameZ-same, sameZ-true, strip-first}
+use Rattle.coverage.proofs.Standing.{alike, in-own-strip, sameZ-true, strip-first}
 use Rattle.coverage.proofs.Bounds.{bounded-ordered, describable-by, few-cells}
 use Rattle.shelf.specs.Meaning.{Coverage, cellAt, domainOf, putStrip, settled, settledOn, stripThere}
 use Rattle.shelf.specs.Laws.{Lawful, LawfulCoverage}
@@ -156,6 +152,7 @@ module _ (d : Extents) (cut : Cut) (fit : cutFits d cut ≡ true) (good : (a : A
       off-x X m e = clash m
       off-x Y m e = clash e
       off-x T m e = clash e
+
       go : (s : Bool) → sameAxis X a ≡ s → (isNone (d a) || sameZ (cond s (lowestOn (cutExtents d cut X)) (stripPoint (cutExtents d cut) n a)) (stripPoint d whole-strip a)) ≡ true →
           (isNone (d a) || sameZ (stripPoint (cutExtents d cut) n a) (stripPoint d whole-strip a)) ≡ true
       go true e h = absurd (off-x a m e)
@@ -166,7 +163,7 @@ module _ (d : Extents) (cut : Cut) (fit : cutFits d cut ≡ true) (good : (a : A
   strip-same p =
       ap₂ (λ x y. x && y) (ap (λ r. onAxis r (p X)) (x-uncut (d X)))
       (all-same across (alike (cutExtents d cut) p (stripPoint (cutExtents d cut) n)) (alike d p (stripPoint d whole-strip))
-        (λ a m. ap (λ b. b || sameZ (p a) (stripPoint (cutExtents d cut) n a)) (on-none (d a) (cutRange cut a)) ∙ same-left (d a) (stripPoint (cutExtents d cut) n a) (stripPoint d whole-strip a) (p a) (stands-same a m)))
+      (λ a m. ap (λ b. b || sameZ (p a) (stripPoint (cutExtents d cut) n a)) (on-none (d a) (cutRange cut a)) ∙ same-left (d a) (stripPoint (cutExtents d cut) n a) (stripPoint d whole-strip a) (p a) (stands-same a m)))
 
   -- and the first point of both is the same, as far as the domain can tell
   pub first-same : settled (cutExtents d cut) (stripFirst (cutExtents d cut) n) ≡ settled d (stripFirst d whole-strip)
@@ -176,6 +173,7 @@ module _ (d : Extents) (cut : Cut) (fit : cutFits d cut ≡ true) (good : (a : A
       across-x X e = absurd (clash (sym e))
       across-x Y e = refl
       across-x T e = refl
+
       go : (a : Axis) (s : Bool) → sameAxis X a ≡ s → settledOn (d a) (cond s (lowestOn (cutExtents d cut X)) (stripPoint (cutExtents d cut) n a)) ≡ settledOn (d a) (cond s (lowestOn (d X)) (stripPoint d whole-strip a))
       go a true e = ap (λ r. settledOn (d a) (lowestOn r)) (x-uncut (d X))
       go a false e = settled-same (d a) (stripPoint (cutExtents d cut) n a) (stripPoint d whole-strip a) (stands-same a (across-x a e))

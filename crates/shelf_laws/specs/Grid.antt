@@ -1,17 +1,17 @@
 -- The received grid: what its cells mean, and the laws that its memory keeps.
 use mathlib.Core.Path.{_≡_}
 use mathlib.Core.List.{List, [], _∷_}
-use mathlib.Core.Bool.{Bool, true, false, cond, not, _&&_, _||_}
+use mathlib.Core.Bool.{Bool, true, cond, not, _&&_, _||_}
 use Prim.Native.Nat.{ℕ, _*_, _/_}
 use lib.Dec.{eqb}
 use lib.IntN.{ℤ, pos, negsuc}
-use lib.ListN.{length, getD}
+use lib.ListN.{getD}
 use Rattle.std.specs.declared.option.Option.{Option}
 use Rattle.std.specs.declared.option.Option.the-variants.{Some, None}
 use Rattle.coverage.specs.declared.domain.Domain.{Domain}
 use Rattle.coverage.specs.declared.kind.Kind.{Kind}
 use Rattle.coverage.specs.declared.description.Description.{Description}
-use Rattle.coverage.specs.Axes.{Coordinates, cells, extents, insideB, numberAt, sameZ}
+use Rattle.coverage.specs.Axes.{cells, extents, insideB, numberAt, sameZ}
 use Rattle.coverage.specs.Kinds.{fits}
 use Rattle.coverage.specs.Limits.{describable, nameBytes}
 use Rattle.coverage.specs.Strips.{rowWidth}

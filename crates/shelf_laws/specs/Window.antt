@@ -1,6 +1,6 @@
 -- The window on one coverage of a shelf, cut to a range of y and of t.
 use mathlib.Core.List.{List, [], _∷_}
-use mathlib.Core.Bool.{Bool, true, false, cond, _&&_}
+use mathlib.Core.Bool.{Bool, true, cond, _&&_}
 use Prim.Native.Nat.{ℕ}
 use lib.Signed.{leZ}
 use Rattle.std.specs.Finite.{nth}

@@ -1,4 +1,4 @@
-ghost use Rattle.shelf_laws.specs.Window.{cutDomain, cutFits, cutRange};
+ghost use Rattle.shelf_laws.specs.Window.{axisFits, cutDomain, cutFits, cutOn, cutRange};
 ghost use Rattle.coverage.specs.Axes.{extents};
 ghost use mathlib.Core.Path.{_≡_};
 use coverage::AXES;
@@ -51,14 +51,14 @@ impl Cut {
     }
 }
 
-ghost use Rattle.shelf_laws.specs.Window.{axisFits, cutOn};
-
 /// Whether a cut lies inside an axis.
 fn fits_axis(axis: Option<Range>, cut: Option<Range>) -> bool
     ensures { λ r. ⌜ r ≡ axisFits axis cut ⌝ }
 {
     match (axis, cut) {
-        (Some(whole), Some(part)) => part.is_ordered() && whole.lo <= part.lo && part.hi <= whole.hi,
+        (Some(whole), Some(part)) => part.is_ordered()
+            && whole.lo <= part.lo
+            && part.hi <= whole.hi,
         _ => true,
     }
 }

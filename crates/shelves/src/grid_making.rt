@@ -50,14 +50,25 @@ pub fn make_grid<'a>(name: &[u8], domain: Domain, kind: Kind, cells: &'a mut [i3
     ensures { λ r. ⌜ MadeGrid (gridFault (now (name .entry)) (extents domain) kind (length (now (cells .entry)))) (now (name .entry)) domain kind (gridMeaning (r .about) (now (r .rows .cells))) (now (cells .entry)) (now (r .rows .cells)) ⌝ }
 {
     if check_grid(name, domain, kind, cells.len()).is_err() {
-        return Grid { about: None, rows: Rows { cells } };
+        return Grid {
+            about: None,
+            rows: Rows { cells },
+        };
     }
     let Some(name) = Name::new(name) else {
-        return Grid { about: None, rows: Rows { cells } };
+        return Grid {
+            about: None,
+            rows: Rows { cells },
+        };
     };
     blank(cells);
     Grid {
-        about: Some(Description { name, domain, kind, receives: true }),
+        about: Some(Description {
+            name,
+            domain,
+            kind,
+            receives: true,
+        }),
         rows: Rows { cells },
     }
 }

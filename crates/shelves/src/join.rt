@@ -68,7 +68,12 @@ pub impl<'j, 'k, A: Shelf, B: Shelf> Shelf for Join<'j, 'k, A, B> as JoinShelf {
     }
 }
 
-pub impl<'j, 'k, A: ReceivingShelf, B: ReceivingShelf> ReceivingShelf for Join<'j, 'k, A, B> as JoinReceiving {
+pub impl<'j, 'k, A: ReceivingShelf, B: ReceivingShelf> ReceivingShelf for Join<
+    'j,
+    'k,
+    A,
+    B,
+> as JoinReceiving {
     fn strip(&mut self, coverage: usize, strip: usize, cells: &[i32]) -> Result<(), ShelfFault> {
         if coverage >= MOST {
             return Err(ShelfFault::NoCoverage(coverage, strip));

@@ -37,7 +37,10 @@ fn view<S: Shelf>(below: &S, coverage: usize, cut: Cut) -> Result<View, MakingFa
                 kind: about.kind,
                 receives: about.receives,
             };
-            Ok(View { whole: about.domain, about: seen })
+            Ok(View {
+                whole: about.domain,
+                about: seen,
+            })
         }
         Err(_) => Err(MakingFault::NoCoverage(coverage)),
     }
@@ -59,7 +62,11 @@ pub fn make_window<'w, S: Shelf>(below: &'w mut S, coverage: usize, cut: Cut) ->
     ensures below { λ r. ⌜ now (r .below) ≡ now (below .entry) ⌝ }
     ensures meaning { λ r. ⌜ windowMeaning (S·Shelf .meaning (now (r .below))) (r .coverage) (r .cut) ≡ windowMeaning (S·Shelf .meaning (now (below .entry))) coverage cut ⌝ }
 {
-    Window { below, coverage, cut }
+    Window {
+        below,
+        coverage,
+        cut,
+    }
 }
 
 pub impl<'w, S: Shelf> Shelf for Window<'w, S> as WindowShelf {
@@ -86,7 +93,13 @@ pub impl<'w, S: Shelf> Shelf for Window<'w, S> as WindowShelf {
 
     fn find(&self, name: &[u8]) -> Option<usize> {
         match view(self.below, self.coverage, self.cut) {
-            Ok(view) => { if view.about.name.is(name) { Some(0) } else { None } }
+            Ok(view) => {
+                if view.about.name.is(name) {
+                    Some(0)
+                } else {
+                    None
+                }
+            }
             Err(_) => None,
         }
     }
@@ -124,7 +137,8 @@ pub impl<'w, S: ReceivingShelf> ReceivingShelf for Window<'w, S> as WindowReceiv
         if strip >= view.about.domain.strips() {
             return Err(ShelfFault::NoStrip(coverage, strip));
         }
-        let below = view.whole.strip_number(view.about.domain.strip_first(strip));
+        let below = view.whole
+            .strip_number(view.about.domain.strip_first(strip));
         match self.below.strip(self.coverage, below, cells) {
             Ok(()) => Ok(()),
             Err(fault) => Err(fault.renumbered(coverage, strip)),

@@ -1,12 +1,9 @@
-use mathlib.Core.Path.{_≡_, sym, ap, subst, _∙_}
+use mathlib.Core.Path.{_≡_, subst}
 use Prim.Native.Nat.{_<_, _%_}
-use native.Mathlib.Omega.{arith}
 use native.Mathlib.Nat.{mod-eq-of-lt}
 use borrow.Author.Needs.{needs}
-use lib.IntN.{pos, _+ℤ_}
 use Rattle.std.proofs.shelf.Signed.{ints}
-use Rattle.std.specs.declared.option.Option.the-variants.{Some}
-use Rattle.coverage.specs.Axes.{coordOf, sizeOf, width}
+use Rattle.coverage.specs.Axes.{sizeOf, width}
 use Rattle.coverage.proofs.range.coordinate.Needs as need
 
 pub returns-in-Some : need.returns-in-Some

@@ -2,13 +2,13 @@ use mathlib.Core.Path.{_≡_, refl, sym, ap, _∙_}
 use mathlib.Core.List.{List, [], _∷_}
 use mathlib.Core.Bool.{true}
 use lib.ListN.{length, replicate}
-use Rattle.std.specs.declared.option.Option.the-variants.{Some, None}
+use Rattle.std.specs.declared.option.Option.the-variants.{Some}
 use Rattle.coverage.specs.declared.description.Description.{Description}
 use Rattle.coverage.specs.Axes.{cells, extents}
 use Rattle.shelf.specs.Meaning.{Coverage}
 use Rattle.shelf_laws.specs.Grid.{null}
 use Rattle.shelf_laws.specs.Making.{gridFault}
-use Rattle.shelf_laws.proofs.Grids.{Kept, about-ok, blank-is, cell-ok, kept-blank, length-ok, row-ok}
+use Rattle.shelf_laws.proofs.Grids.{about-ok, blank-is, cell-ok, kept-blank, length-ok, row-ok}
 use Rattle.shelf_laws.proofs.Makings.{allowed-by, allowed-describable, grid-allowed, made-blank, made-none, name-made, no-name-made, refusal-of}
 use Rattle.shelves.proofs.grid_making.make_grid.Needs as need
 

@@ -1,4 +1,3 @@
-use mathlib.Core.Path.{_≡_}
 use Rattle.coverage.specs.Axes.{coordinates, extents, numberAt}
 use Rattle.coverage.proofs.Points.{inside-from}
 use Rattle.coverage.proofs.domain.Domain.cell_number.Needs as need

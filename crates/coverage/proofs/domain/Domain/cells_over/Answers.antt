@@ -3,7 +3,7 @@ use Prim.Native.Nat.{ℕ, _+_, _*_, _≤_, min}
 use native.Mathlib.Omega.{arith}
 use native.Mathlib.Nat.{mul-one, min-eq-left, min-le-right}
 use borrow.Author.Needs.{needs}
-use lib.ListN.{length, getD, drop}
+use lib.ListN.{getD, drop}
 use Rattle.std.proofs.shelf.Bits.{mul-le}
 use Rattle.std.proofs.shelf.Lists.{at-drop-more, at-drop-all}
 use Rattle.coverage.specs.declared.axis.Axis.the-variants.{X}
@@ -27,7 +27,7 @@ loop-axis-again c =
     let new : c .min-n .result ≡ min (n * min (sizeOf (d (getD list i X))) 65537) 65537 = c .min-n .ensures ∙ ap (λ s. min (n * s) 65537) size in
     let rest = cellsOver (drop (i + 1) list) d in
     let now-is : min (c .min-n .result * rest) 65537 ≡ min (n * (sizeOf (d (getD list i X)) * rest)) 65537 =
-          ap (λ m. min (m * rest) 65537) new ∙ cap-turn 65537 n (sizeOf (d (getD list i X))) rest in
+    ap (λ m. min (m * rest) 65537) new ∙ cap-turn 65537 n (sizeOf (d (getD list i X))) rest in
     let F : _ → ℕ = λ l. cellsOver l d in
     (now-is ∙ (sym (ap (λ m. min (n * m) 65537) (at-drop-more F list i X (c .loop-axis-test .taken))) ∙ c .loop-axis .inv .0), omega (arith, c .min-n .ensures, min-le-right (n * c .places .result) 65537))
 

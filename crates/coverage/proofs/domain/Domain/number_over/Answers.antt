@@ -1,11 +1,11 @@
-use mathlib.Core.Path.{_≡_, sym, ap, ap₂, subst, _∙_}
-use Prim.Native.Nat.{ℕ, _+_, _*_, _≤_, _<_, min}
+use mathlib.Core.Path.{_≡_, sym, ap, subst, _∙_}
+use Prim.Native.Nat.{_+_, _*_, min}
 use native.Mathlib.Omega.{arith}
-use native.Mathlib.Nat.{min-eq-left, mul-one}
+use native.Mathlib.Nat.{min-eq-left}
 use borrow.Author.Needs.{needs}
-use lib.ListN.{length, getD, drop}
+use lib.ListN.{getD}
 use Rattle.coverage.specs.declared.axis.Axis.the-variants.{X}
-use Rattle.coverage.specs.Axes.{cellsOver, coordinates, extents, numberOver, sizeOf, stepOf}
+use Rattle.coverage.specs.Axes.{coordinates, extents, sizeOf, stepOf}
 use Rattle.coverage.proofs.Turns.{Counted, room, counts-on, counted}
 use Rattle.coverage.proofs.domain.Domain.number_over.Needs as need
 

@@ -1,5 +1,4 @@
-use mathlib.Core.Path.{_≡_, ap, _∙_}
-use lib.IntN.{ℤ}
+use mathlib.Core.Path.{ap, _∙_}
 use Rattle.coverage.specs.Axes.{axes, extents, pointAt, pointOver}
 use Rattle.coverage.proofs.Points.{origin-is}
 use Rattle.coverage.proofs.domain.Domain.point_of.Needs as need

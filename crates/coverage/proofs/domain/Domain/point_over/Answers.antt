@@ -1,6 +1,6 @@
 use mathlib.Core.Path.{_≡_, sym, ap, _∙_}
 use mathlib.Core.List.{List}
-use Prim.Native.Nat.{ℕ, _+_, _/_, _%_, _<_, _≤_, min}
+use Prim.Native.Nat.{ℕ, _+_, _/_, _%_, _<_, min}
 use native.Mathlib.Omega.{arith}
 use native.Mathlib.Nat.{min-eq-left}
 use borrow.Author.Needs.{needs}
@@ -10,7 +10,7 @@ use Rattle.std.proofs.shelf.Bits.{mod-below}
 use Rattle.std.proofs.shelf.Lists.{at-drop-all}
 use Rattle.coverage.specs.declared.axis.Axis.{Axis}
 use Rattle.coverage.specs.declared.axis.Axis.the-variants.{X}
-use Rattle.coverage.specs.Axes.{Extents, coordOf, coordinates, extents, pointOver, put, sizeOf}
+use Rattle.coverage.specs.Axes.{coordOf, coordinates, extents, pointOver, put, sizeOf}
 use Rattle.coverage.proofs.Turns.{point-turn}
 use Rattle.coverage.proofs.domain.Domain.point_over.Needs as need
 
@@ -47,7 +47,7 @@ loop-axis-again c =
     let q = coordinates (c .loop-axis .p) in
     let w : c .places-size .result ≡ sizeOf (d a) = c .places-size .ensures ∙ (ap (λ x. min (sizeOf x) 65537) (c .on .ensures) ∙ min-eq-left (omega (arith, c .pre .sized a .1))) in
     let moved : (e : Axis) → coordinates (c .raised-p .result) e ≡ put q a (coordOf (d a) (c .loop-axis .n % sizeOf (d a)) (q a)) e =
-          λ e. c .raised-p .ensures e ∙ ap (λ s. put q a (coordOf (d a) (c .loop-axis .n % s) (q a)) e) w in
+    λ e. c .raised-p .ensures e ∙ ap (λ s. put q a (coordOf (d a) (c .loop-axis .n % s) (q a)) e) w in
     λ b. ap (λ s. pointOver (drop (i + 1) list) d (c .loop-axis .n / s) (coordinates (c .raised-p .result)) b) w
     ∙ (point-turn list d i (c .loop-axis .n) q (coordinates (c .raised-p .result)) (c .loop-axis-test .taken) (c .pre .once) moved b ∙ c .loop-axis .inv b)
 

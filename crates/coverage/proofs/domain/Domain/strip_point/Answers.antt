@@ -12,7 +12,7 @@ unfolding stripPoint
 returns c =
     let d = extents (c .args .self) in
     let e : (a : Axis) → coordinates (c .point-over .result) a ≡ stripPoint d (c .args .n) a =
-          λ a. c .point-over .ensures a ∙ ap (λ o. pointOver across d (c .args .n) o a) origin-is in
+    λ a. c .point-over .ensures a ∙ ap (λ o. pointOver across d (c .args .n) o a) origin-is in
     record {
       place = e;
       stands = λ h. stands-as d (c .args .n) (coordinates (c .point-over .result)) (stripPoint d (c .args .n)) (e Y) (e T) (strip-stands d (c .args .n) (c .pre .sized) h);

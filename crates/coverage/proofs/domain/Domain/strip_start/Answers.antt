@@ -1,5 +1,4 @@
-use mathlib.Core.Path.{_≡_, ap, _∙_}
-use Rattle.coverage.specs.declared.axis.Axis.the-variants.{X}
+use mathlib.Core.Path.{ap, _∙_}
 use Rattle.coverage.specs.Axes.{extents, insideB, numberAt}
 use Rattle.coverage.specs.Strips.{stripFirst}
 use Rattle.coverage.proofs.Points.{inside-test}

@@ -1,6 +1,6 @@
 use mathlib.Core.Path.{_≡_, sym, ap, _∙_}
 use mathlib.Core.List.{List}
-use Prim.Native.Nat.{ℕ, _-_, _≤_, min}
+use Prim.Native.Nat.{ℕ, _≤_, min}
 use native.Mathlib.Omega.{arith}
 use native.Mathlib.Nat.{min-eq-left, min-eq-right, sub-zero}
 use borrow.Author.Needs.{needs}
@@ -11,7 +11,6 @@ use Rattle.std.specs.shelf.Text.{sameBytes}
 use Rattle.std.proofs.shelf.Equals.{matches-decides, sameBytes-decides}
 use Rattle.std.proofs.shelf.Lists.{take-all}
 use Rattle.std.proofs.shelf.Ways.{same-from-decides}
-use Rattle.coverage.specs.Limits.{nameBytes}
 use Rattle.coverage.proofs.Bools.{by-test}
 use Rattle.coverage.proofs.name.Name.is.Needs as need
 
@@ -21,7 +20,7 @@ front-capped n k xs l =
     by-test (leb n k)
     (λ e. ap (λ m. take m xs) (min-eq-left (leb-true n k e)))
     (λ e. let h : k ≤ n = omega (arith, leb-false n k e) in
-      ap (λ m. take m xs) (min-eq-right h) ∙ (take-all k xs (omega arith) ∙ sym (take-all n xs (omega arith))))
+    ap (λ m. take m xs) (min-eq-right h) ∙ (take-all k xs (omega arith) ∙ sym (take-all n xs (omega arith))))
 
 pub returns : need.returns
 returns c =

@@ -1,21 +1,19 @@
-use mathlib.Core.Path.{_≡_, refl, sym, ap, _∙_}
-use mathlib.Core.Bool.{true, false}
-use Prim.Native.Nat.{_<_}
+use mathlib.Core.Path.{_≡_, sym, ap, _∙_}
 use native.Mathlib.Omega.{arith}
 use borrow.Author.Needs.{needs}
 use lib.IntN.{ℤ, pos}
-use lib.ListN.{getD, length}
-use mir.Val.{toZ, ofZ, SFits}
+use lib.ListN.{getD}
+use mir.Val.{SFits}
 use mir.Syntax.{w32}
 use Rattle.std.specs.declared.option.Option.{Option}
-use Rattle.std.specs.declared.option.Option.the-variants.{Some, None}
+use Rattle.std.specs.declared.option.Option.the-variants.{Some}
 use Rattle.std.specs.declared.result.Result.{Result}
-use Rattle.std.specs.declared.result.Result.the-variants.{Ok, Err}
+use Rattle.std.specs.declared.result.Result.the-variants.{Ok}
 use Rattle.std.proofs.shelf.Signed.{toZ-ofZ}
-use Rattle.coverage.specs.Axes.{coordinates, extents, insideB, numberAt}
+use Rattle.coverage.specs.Axes.{coordinates, extents, numberAt}
 use Rattle.coverage.proofs.Bounds.{describable-by, few-cells}
 use Rattle.shelf.specs.declared.fault.ShelfFault.{ShelfFault}
-use Rattle.shelf_laws.specs.Grid.{isNull, known}
+use Rattle.shelf_laws.specs.Grid.{known}
 use Rattle.shelf_laws.proofs.Cells.{known-null, known-value, null-no, null-yes}
 use Rattle.shelf_laws.proofs.Grids.{kept-from, look-known, look-outside}
 use Rattle.shelves.proofs.grid_calls.GridShelf.look.Needs as need

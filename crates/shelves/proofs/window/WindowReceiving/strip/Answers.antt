@@ -1,12 +1,11 @@
 use mathlib.Core.Path.{_≡_, sym, ap, subst, _∙_}
-use mathlib.Core.Bool.{true, false}
 use Prim.Native.Nat.{_≤_, _<_}
 use native.Mathlib.Omega.{arith}
 use borrow.Author.Tests.{not-false, not-true}
 use Rattle.std.specs.declared.result.Result.{Result}
 use Rattle.std.specs.declared.result.Result.the-variants.{Err}
-use Rattle.coverage.specs.Axes.{Coordinates, Inside, coordinates, extents}
-use Rattle.coverage.specs.Strips.{stripAt, stripFirst, strips}
+use Rattle.coverage.specs.Axes.{Coordinates, Inside, extents}
+use Rattle.coverage.specs.Strips.{stripAt, strips}
 use Rattle.shelf.specs.declared.fault.ShelfFault.{ShelfFault}
 use Rattle.shelf.specs.Faults.{told}
 use Rattle.shelf.proofs.Shapes.{strips-counted}

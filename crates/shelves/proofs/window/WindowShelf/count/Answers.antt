@@ -1,4 +1,4 @@
-use mathlib.Core.Path.{_≡_, sym, ap}
+use mathlib.Core.Path.{sym, ap}
 use lib.ListN.{length}
 use Rattle.shelf_laws.proofs.WindowCalls.{hidden}
 use Rattle.shelf_laws.proofs.Views.{view-count}

@@ -1,4 +1,4 @@
-use mathlib.Core.Path.{_≡_, sym, ap}
+use mathlib.Core.Path.{sym, ap}
 use mathlib.Core.Bool.{true, false}
 use Rattle.shelf.specs.Meaning.{findAnswer}
 use Rattle.shelf_laws.proofs.WindowCalls.{hidden}

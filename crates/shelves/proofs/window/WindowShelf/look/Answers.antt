@@ -1,4 +1,4 @@
-use mathlib.Core.Path.{_≡_, sym, ap, _∙_}
+use mathlib.Core.Path.{sym, ap, _∙_}
 use lib.IntN.{ℤ}
 use Rattle.std.specs.declared.option.Option.{Option}
 use Rattle.std.specs.declared.result.Result.{Result}
@@ -28,7 +28,7 @@ returns-in-Ok-look g c =
     let me = c .args .self .now in
     ap (λ r. told r (c .args .coverage) 0) (c .in-Ok-look .ensures tt)
     ∙ view-looked (g .S·Shelf .meaning (me .below .now)) (me .coverage) (me .cut) (c .in-Ok .view) (c .in-Ok .ensures tt) (g .S·Shelf .lawful (me .below .now)) (c .args .coverage) (c .if-coverage-ne0 .left)
-      (coordinates (c .args .at)) (sym (c .if-not-contains .ensures tt))
+    (coordinates (c .args .at)) (sym (c .if-not-contains .ensures tt))
 
 pub returns-in-Err-look : need.returns-in-Err-look
 returns-in-Err-look g c =
@@ -37,7 +37,7 @@ returns-in-Err-look g c =
     ap err (c .renumbered .ensures)
     ∙ (ap (λ r. told r (c .args .coverage) 0) (c .in-Err-look .ensures tt)
     ∙ view-looked (g .S·Shelf .meaning (me .below .now)) (me .coverage) (me .cut) (c .in-Ok .view) (c .in-Ok .ensures tt) (g .S·Shelf .lawful (me .below .now)) (c .args .coverage) (c .if-coverage-ne0 .left)
-      (coordinates (c .args .at)) (sym (c .if-not-contains .ensures tt)))
+    (coordinates (c .args .at)) (sym (c .if-not-contains .ensures tt)))
 
 pub returns-in-Err : need.returns-in-Err
 returns-in-Err g c =
