@@ -2,11 +2,12 @@ ghost use mathlib.Core.Path.{_≡_};
 ghost use Prim.Native.Nat.{ℕ, _≤_};
 ghost use lib.ListN.{length};
 ghost use mathlib.Core.Bool.{true};
+ghost use Rattle.std.specs.Results.{isOk};
 ghost use Rattle.std.specs.declared.result.Result.the-variants.{Err};
 ghost use Rattle.lexer.specs.Toks.{toks};
 ghost use Rattle.parser.specs.declared.fault.TextFault.the-variants.{NoQuery};
 ghost use Rattle.parser.specs.Grammar.{Admits};
-ghost use Rattle.parser.specs.Texts.{WholeRead, answered};
+ghost use Rattle.parser.specs.Texts.{TableAfter, WholeRead, answered, judged};
 ghost use Rattle.parser.specs.Theorem.{Clean, Refusable, Meant, grammatical};
 use crate::expr::expr;
 use crate::fault::TextFault;
@@ -63,6 +64,7 @@ fn whole(text: &[u8], nodes: &mut [Node]) -> Result<Reading, usize>
 /// Reads a text as a query into the table of nodes, or tells why not.
 pub fn read(text: &[u8], nodes: &mut [Node]) -> Result<Reading, TextFault>
     ensures value { λ r. ⌜ r ≡ answered (now (text .entry)) (now (nodes .entry)) ⌝ }
+    ensures table { λ r. ⌜ (isOk r ≡ true → TableAfter (now (nodes .exit)) (judged (now (text .entry)) (now (nodes .entry)))) ⌝ }
     ensures means { λ r. ⌜ Meant (now (text .entry)) r ⌝ }
     ensures only { λ r. ⌜ (Clean (now (text .entry)) → Admits (toks (now (text .entry)) 0) → grammatical r ≡ true) ⌝ }
     ensures just { λ r. ⌜ ((p : ℕ) → Clean (now (text .entry)) → Refusable (now (text .entry)) p → r ≡ Err (NoQuery p)) ⌝ }
@@ -72,7 +74,8 @@ pub fn read(text: &[u8], nodes: &mut [Node]) -> Result<Reading, TextFault>
 
 // The refusals in turn: the text's length, its tokens, the grammar, the limits.
 fn answer(text: &[u8], nodes: &mut [Node]) -> Result<Reading, TextFault>
-    ensures { λ r. ⌜ r ≡ answered (now (text .entry)) (now (nodes .entry)) ⌝ }
+    ensures value { λ r. ⌜ r ≡ answered (now (text .entry)) (now (nodes .entry)) ⌝ }
+    ensures table { λ r. ⌜ (isOk r ≡ true → TableAfter (now (nodes .exit)) (judged (now (text .entry)) (now (nodes .entry)))) ⌝ }
 {
     if text.len() > LONGEST_TEXT {
         return Err(TextFault::TooLong);
