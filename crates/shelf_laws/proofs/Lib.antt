@@ -8,3 +8,7 @@ pub mod Joins
 pub mod Windows
 pub mod WindowCalls
 pub mod Views
+pub mod Products
+pub mod Ramps
+pub mod Singles
+pub mod ByteGrids

@@ -34,7 +34,7 @@ pub allowed-by : (f : Option MakingFault) (r : Result (Unit {0}) MakingFault) �
 allowed-by None r e h = refl
 allowed-by (Some g) r e h = absurd (clash (sym h ∙ ap isErr e))
 
-cond-none : (b : Bool) (x : Option MakingFault) (f : MakingFault) → cond b x (Some f) ≡ None → (b ≡ true) × (x ≡ None)
+pub cond-none : (b : Bool) (x : Option MakingFault) (f : MakingFault) → cond b x (Some f) ≡ None → (b ≡ true) × (x ≡ None)
 cond-none true x f e = (refl, e)
 cond-none false x f e = absurd (let z : _≡_ {A = ℕ} 0 1 = cc in omega arith)
 

@@ -2,3 +2,6 @@ pub mod Making
 pub mod Grid
 pub mod Join
 pub mod Window
+pub mod Single
+pub mod ByteGrid
+pub mod Ramp

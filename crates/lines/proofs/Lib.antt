@@ -1,0 +1,14 @@
+pub mod Bytes
+pub mod Literals
+pub mod Runs
+pub mod Words
+pub mod Numbers
+pub mod Worths
+pub mod Compares
+pub mod Ranges
+pub mod Endings
+pub mod Chains
+pub mod CellTexts
+pub mod Viable
+pub mod Whole
+pub mod Stopping

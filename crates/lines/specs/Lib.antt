@@ -1,0 +1,5 @@
+pub mod Numerals
+pub mod Pieces
+pub mod Forms
+pub mod Grammar
+pub mod Says

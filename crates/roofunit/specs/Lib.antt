@@ -1,0 +1,3 @@
+pub mod Picture
+pub mod Replies
+pub mod Answers
