@@ -28,12 +28,27 @@ use crate::picture::picture;
 use crate::send::send;
 
 /// The roof: four rows of four cells.
-const ROOF: Domain = Domain { x: Some(Range { lo: 0, hi: 3 }), y: Some(Range { lo: 0, hi: 3 }), t: None };
+const ROOF: Domain = Domain {
+    x: Some(Range { lo: 0, hi: 3 }),
+    y: Some(Range { lo: 0, hi: 3 }),
+    t: None,
+};
 /// The slope: two rows of four cells.
-const SLOPE: Domain = Domain { x: Some(Range { lo: 0, hi: 3 }), y: Some(Range { lo: 0, hi: 1 }), t: None };
+const SLOPE: Domain = Domain {
+    x: Some(Range { lo: 0, hi: 3 }),
+    y: Some(Range { lo: 0, hi: 1 }),
+    t: None,
+};
 /// The lower window shows all rows but the first, the upper one all but two; without t its cut is ignored.
-const LOWER: Cut = Cut { y: Range { lo: 1, hi: 3 }, t: Range { lo: 0, hi: 0 } };
-const UPPER: Cut = Cut { y: Range { lo: 2, hi: 3 }, t: Range { lo: 0, hi: 0 } };
+const LOWER: Cut = Cut {
+    y: Range { lo: 1, hi: 3 },
+    t: Range { lo: 0, hi: 0 },
+};
+
+const UPPER: Cut = Cut {
+    y: Range { lo: 2, hi: 3 },
+    t: Range { lo: 0, hi: 0 },
+};
 
 /// The upper window, on coverage 1 of the join: its strips 0 and 1 are the rows y 2 and y 3.
 fn through_upper<S: ReceivingShelf>(rt: &LibcRuntime, both: &mut S) -> io::Result<()> {
@@ -48,8 +63,15 @@ fn through_upper<S: ReceivingShelf>(rt: &LibcRuntime, both: &mut S) -> io::Resul
 }
 
 /// The join: coverage 0 is the slope, coverage 1 the lower window's.
-fn through_join<A: ReceivingShelf, B: ReceivingShelf>(rt: &LibcRuntime, slope: &mut A, lower: &mut B) -> io::Result<()> {
-    let mut both = Join { first: slope, second: lower };
+fn through_join<A: ReceivingShelf, B: ReceivingShelf>(
+    rt: &LibcRuntime,
+    slope: &mut A,
+    lower: &mut B,
+) -> io::Result<()> {
+    let mut both = Join {
+        first: slope,
+        second: lower,
+    };
     through_upper(rt, &mut both)?;
     println!(rt, "to the join")?;
     send(rt, &mut both, 1, 0, &[10, 11, 12, 13])?;
@@ -63,7 +85,11 @@ fn through_join<A: ReceivingShelf, B: ReceivingShelf>(rt: &LibcRuntime, slope: &
 }
 
 /// The lower window, on the roof: its strips 0, 1 and 2 are the rows y 1, y 2 and y 3.
-fn through_lower<A: ReceivingShelf, B: ReceivingShelf>(rt: &LibcRuntime, slope: &mut A, roof: &mut B) -> io::Result<()> {
+fn through_lower<A: ReceivingShelf, B: ReceivingShelf>(
+    rt: &LibcRuntime,
+    slope: &mut A,
+    roof: &mut B,
+) -> io::Result<()> {
     let mut lower = make_window(roof, 0, LOWER);
     through_join(rt, slope, &mut lower)?;
     println!(rt, "to the lower window")?;
@@ -75,7 +101,12 @@ fn through_lower<A: ReceivingShelf, B: ReceivingShelf>(rt: &LibcRuntime, slope: 
 
 fn main(rt: LibcRuntime) -> io::Result<()> {
     let mut cells = [0i32; 16];
-    let mut roof = make_grid(b"roof", ROOF, Kind::Number(Range { lo: 0, hi: 99 }), &mut cells);
+    let mut roof = make_grid(
+        b"roof",
+        ROOF,
+        Kind::Number(Range { lo: 0, hi: 99 }),
+        &mut cells,
+    );
     let mut slope = make_ramp(b"slope", SLOPE, Slopes { x: 1, y: 10, t: 0 }, 5);
     through_lower(&rt, &mut slope, &mut roof)?;
     println!(rt, "to the roof")?;

@@ -20,10 +20,20 @@ fn print_cell(rt: &LibcRuntime, cell: Option<i32>) -> io::Result<()> {
 }
 
 /// Prints a row of cells after its y.
-fn print_row<S: Shelf>(rt: &LibcRuntime, shelf: &S, coverage: usize, domain: Domain, y: i64) -> io::Result<()> {
+fn print_row<S: Shelf>(
+    rt: &LibcRuntime,
+    shelf: &S,
+    coverage: usize,
+    domain: Domain,
+    y: i64,
+) -> io::Result<()> {
     print!(rt, "y {y}:")?;
     for k in 0..places(domain.x) {
-        let at = Point { x: coordinate_at(domain.x, k), y, t: lowest(domain.t) };
+        let at = Point {
+            x: coordinate_at(domain.x, k),
+            y,
+            t: lowest(domain.t),
+        };
         print_cell(rt, shelf.look(coverage, at).unwrap_or(None))?;
     }
     println!(rt)
@@ -34,7 +44,13 @@ pub fn picture<S: Shelf>(rt: &LibcRuntime, shelf: &S, coverage: usize) -> io::Re
     match shelf.describe(coverage) {
         Ok(about) => {
             for k in 0..places(about.domain.y) {
-                print_row(rt, shelf, coverage, about.domain, coordinate_at(about.domain.y, k))?;
+                print_row(
+                    rt,
+                    shelf,
+                    coverage,
+                    about.domain,
+                    coordinate_at(about.domain.y, k),
+                )?;
             }
             Ok(())
         }
