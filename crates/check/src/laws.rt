@@ -1,0 +1,12 @@
+ghost use Prim.Native.Nat.{ℕ};
+ghost use Rattle.check.specs.Keeps.{RulesKeepTheLimits};
+ghost use Rattle.check.specs.Trees.{EachByItsRule};
+ghost use Rattle.language.specs.Iterators.{Ranges};
+ghost use Rattle.language.specs.Typing.{Described};
+
+/// What the definitions work out of a tree is what the rules work out of its constructs, each after its
+/// operands; and what a rule accepts of operands within the limits is within them.
+pub fn trees_go_by_the_rules()
+    ensures rules { λ _. ⌜ ((about : Described) (g : Ranges) (place : ℕ) → EachByItsRule about g place) ⌝ }
+    ensures limits { λ _. ⌜ RulesKeepTheLimits ⌝ }
+{}
