@@ -42,6 +42,18 @@ pub in-turn : {V : Type 0} (f : Option Refusal) (v : V) (rest : Option Refusal) 
 in-turn None v rest w next h = sym h
 in-turn (Some r) v rest w next h = refl
 
+-- tests in turn, those of one function and then the rest
+pub grouped : {V : Type 0} (s t rest : Option Refusal) (v : V) → accepts (first (first s t) rest) v ≡ accepts (first s (first t rest)) v
+grouped None t rest v = refl
+grouped (Some r) t rest v = refl
+
+-- tests that passed leave the rest; those that refused refuse
+pub rest-of : {V : Type 0} (f rest : Option Refusal) (v : V) → None ≡ f → accepts rest v ≡ accepts (first f rest) v
+rest-of f rest v h = rw (sym h) refl
+
+pub refused-of : {V : Type 0} (r : Refusal) (f rest : Option Refusal) (v : V) → Some r ≡ f → Err r ≡ accepts (first f rest) v
+refused-of r f rest v h = rw (sym h) refl
+
 -- the limits of what has been worked out are those of what it is
 pub limited-as : (place : ℕ) (d d′ : Extents) (k k′ : Kind) (n n′ : ℕ) → d ≡ d′ → k ≡ k′ → n ≡ n′ →
     accepts (limitsFault k n place) (announce d k n) ≡ accepts (limitsFault k′ n′ place) (announce d′ k′ n′)

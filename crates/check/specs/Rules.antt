@@ -1,6 +1,6 @@
 -- The rule of each construct: from what is worked out of its operands, its own domain, kind and promise, or its refusal.
 use Prim.Native.Nat.{ℕ, _+_, _*_}
-use mathlib.Core.Bool.{Bool}
+use mathlib.Core.Bool.{Bool, _&&_}
 use lib.IntN.{pos}
 use Rattle.std.specs.declared.option.Option.{Option}
 use Rattle.std.specs.declared.option.Option.the-variants.{Some, None}
@@ -17,8 +17,9 @@ use Rattle.syntax.specs.declared.Binary.{Binary}
 use Rattle.syntax.specs.declared.Fold.{Fold}
 use Rattle.syntax.specs.declared.Reduce.{Reduce}
 use Rattle.language.specs.Spans.{number, unaryKind, binaryKind, foldKind, widened, reduceKind}
+use Rattle.language.specs.Fits.{operandsFit}
 use Rattle.language.specs.Typing.{About, namedExtents, namedKind, iteratorKind, jointExtents}
-use Rattle.language.specs.Faults.{unless, first, limitsFault, nameFault, iteratorFault, unaryFault, binaryFault, reduceFault, trimFault, sliceFault, condenseFault, condenseWhereFault, formFault}
+use Rattle.language.specs.Faults.{unless, first, domainsFit, divisorFault, nameFault, iteratorFault, unaryFault, binaryFault, reduceFault, trimFault, sliceFault, condenseFault, condenseWhereFault, formFault}
 use Rattle.language.specs.Queries.{Announced}
 
 -- a domain, a kind and a promise
@@ -49,6 +50,10 @@ iteratorRule r place = accepts (iteratorFault r place) (announce noExtents (iter
 -- a prefix, or `abs`
 abbrev pub unaryRule : Unary → Announced → ℕ → Result Announced Refusal
 unaryRule o p place = accepts (unaryFault o (p .kind) (p .promise) place) (announce (p .extents) (unaryKind o (p .kind)) (p .promise))
+
+-- the tests of two operands: 7 where they do not fit, then 8 where the divisor's span holds 0
+abbrev pub operandsFault : Binary → Announced → Announced → ℕ → Option Refusal
+operandsFault o p q place = first (unless (operandsFit o (p .kind) (q .kind) && domainsFit (p .extents) (q .extents)) 7 place) (divisorFault o (q .kind) place)
 
 -- two operands: both are read
 abbrev pub binaryRule : Binary → Announced → Announced → ℕ → Result Announced Refusal

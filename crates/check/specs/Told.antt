@@ -1,5 +1,7 @@
 -- What the code works out and how it refuses, in the words of the language's definitions.
 use Prim.Native.Nat.{ℕ, _≤_}
+use Rattle.std.specs.declared.option.Option.{Option}
+use Rattle.std.specs.declared.option.Option.the-variants.{Some, None}
 use Rattle.std.specs.declared.result.Result.{Result}
 use Rattle.std.specs.declared.result.Result.the-variants.{Ok, Err}
 use Rattle.coverage.specs.declared.axis.Axis.{Axis}
@@ -32,6 +34,11 @@ partOf t = record { extents = extents (t .domain); kind = t .kind; promise = t .
 abbrev pub told : Result Typed CheckFault → Result Announced Refusal
 told (Ok t) = Ok (partOf t)
 told (Err f) = Err (refusalOf f)
+
+-- the refusal of tests alone, or none where they pass
+abbrev pub refusedBy : Result (Unit {0}) CheckFault → Option Refusal
+refusedBy (Ok u) = None
+refusedBy (Err f) = Some (refusalOf f)
 
 -- what is said of a coverage that a `$` name stands for
 abbrev pub aboutOf : Description → About

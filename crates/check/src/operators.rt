@@ -1,9 +1,10 @@
 // The rules of operators and functions. Each takes what is worked out of its operands, within the limits.
-ghost use Rattle.check.specs.Rules.{binaryRule, reduceRule, unaryRule};
-ghost use Rattle.check.specs.Told.{Limited, partOf, told};
+ghost use Rattle.check.specs.Rules.{binaryRule, operandsFault, reduceRule, unaryRule};
+ghost use Rattle.check.specs.Told.{Limited, partOf, refusedBy, told};
 ghost use Rattle.coverage.specs.Axes.{extents};
 ghost use Rattle.language.specs.Faults.{domainsFit};
 ghost use Rattle.language.specs.Fits.{operandsFit};
+ghost use Rattle.language.specs.Limits.{InBounds};
 ghost use mathlib.Core.Bool.{_&&_};
 ghost use mathlib.Core.Path.{_≡_};
 use crate::domains::NO_AXES;
@@ -47,11 +48,10 @@ fn operands_fit(o: Binary, left: Typed, right: Typed) -> bool
     binary_takes(o, left.kind, right.kind) && domains_fit(left.domain, right.domain)
 }
 
-/// An operator between two operands.
-pub fn binary_rule(o: Binary, left: Typed, right: Typed, place: usize) -> Result<Typed, CheckFault>
-    requires left { ⌜ Limited (partOf left) ⌝ }
-    requires right { ⌜ Limited (partOf right) ⌝ }
-    ensures { λ r. ⌜ told r ≡ binaryRule o (partOf left) (partOf right) place ⌝ }
+/// The tests of two operands: that they fit, then that no divisor's span holds 0.
+fn operands_pass(o: Binary, left: Typed, right: Typed, place: usize) -> Result<(), CheckFault>
+    requires { ⌜ InBounds (right .kind) ⌝ }
+    ensures { λ r. ⌜ refusedBy r ≡ operandsFault o (partOf left) (partOf right) place ⌝ }
 {
     if !operands_fit(o, left, right) {
         return Err(CheckFault::Unfit(place));
@@ -59,6 +59,16 @@ pub fn binary_rule(o: Binary, left: Typed, right: Typed, place: usize) -> Result
     if divides_by_zero(o, right.kind) {
         return Err(CheckFault::ZeroDivisor(place));
     }
+    Ok(())
+}
+
+/// An operator between two operands.
+pub fn binary_rule(o: Binary, left: Typed, right: Typed, place: usize) -> Result<Typed, CheckFault>
+    requires left { ⌜ Limited (partOf left) ⌝ }
+    requires right { ⌜ Limited (partOf right) ⌝ }
+    ensures { λ r. ⌜ told r ≡ binaryRule o (partOf left) (partOf right) place ⌝ }
+{
+    operands_pass(o, left, right, place)?;
     let typed = Typed {
         domain: joint(left.domain, right.domain),
         kind: binary_kind(o, left.kind, right.kind),
