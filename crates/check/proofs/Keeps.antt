@@ -38,7 +38,7 @@ use Rattle.language.proofs.Rules.{in-limits, low-promise, one, own-iterators, p
 use Rattle.language.proofs.Sizes.{joint-le, one-le, set-le, trim-le}
 use Rattle.language.proofs.Within.{cond-ordered}
 use Rattle.check.specs.Keeps.{Kept, Passable, RulesKeepTheLimits, Through}
-use Rattle.check.specs.Rules.{accepts, announce, nameRule, iteratorRule, unaryRule, binaryRule, reduceRule, trimRule, sliceRule, condenseRule, condenseWhereRule, formRule}
+use Rattle.check.specs.Rules.{accepts, announce, nameRule, iteratorRule, unaryRule, binaryRule, reduceRule, trimRule, sliceRule, condenseRule, condenseWhereRule, formRule, queryRule}
 use Rattle.check.specs.Told.{Limited, aboutOf}
 use Rattle.check.specs.Trees.{iteratorsRule}
 
@@ -155,6 +155,11 @@ where-kept o n w p place h =
 form-kept : (d : Extents) (p : Announced) (place : ℕ) → Passable d → Limited p → Kept (formRule d p place)
 form-kept d p place g h = kept-if (formFault (p .extents) place) (announce d (p .kind) (p .promise)) (λ f. record { span = h .span; ordered = g .ordered; few = g .few; reads = h .reads })
 
+query-kept : (p : Announced) → Limited p → Kept (queryRule p)
+query-kept p h =
+    let n = cells (p .extents) * p .promise in
+    kept-if (unless (leb n mostReads) 11 0) (announce (p .extents) (p .kind) n) (λ f. record { span = h .span; ordered = h .ordered; few = h .few; reads = low-promise n 0 f })
+
 pub rules-keep-the-limits : RulesKeepTheLimits
 rules-keep-the-limits =
     record {
@@ -171,4 +176,5 @@ rules-keep-the-limits =
       condenses = condense-kept;
       wheres = where-kept;
       forms = form-kept;
+      queries = query-kept;
     }

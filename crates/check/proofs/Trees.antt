@@ -1,15 +1,19 @@
 -- Every construct is worked out by its rule, after its operands.
-use mathlib.Core.Path.{_≡_, refl, sym}
-use mathlib.Core.List.{List}
+use mathlib.Core.Path.{_≡_, refl, sym, _∙_}
+use mathlib.Core.List.{List, []}
 use Prim.Native.Nat.{ℕ, _+_, _*_}
+use lib.Dec.{leb}
+use Rattle.std.specs.declared.option.Option.{Option}
+use Rattle.std.specs.declared.option.Option.the-variants.{Some, None}
+use Rattle.coverage.specs.declared.refusal.Refusal.{Refusal}
 use Rattle.coverage.specs.Axes.{cells}
 use Rattle.syntax.specs.Tree.{Iterator, Expr, unary, binary, reduce, trim, slice, condense, condenseWhere, form}
-use Rattle.language.specs.Iterators.{Ranges, iteratorExtents, bindRanges}
+use Rattle.language.specs.Iterators.{Ranges, noRanges, iteratorExtents, bindRanges}
 use Rattle.language.specs.Typing.{Described, domainOf, kindOf, promiseOf}
-use Rattle.language.specs.Faults.{first, unaryFault, binaryFault, reduceFault, trimFault, sliceFault, iteratorsFault, condenseFault, condenseWhereFault, formFault, faultOf}
-use Rattle.language.specs.Queries.{Announced}
-use Rattle.check.specs.Rules.{announce, unaryRule, binaryRule, reduceRule, trimRule, sliceRule, condenseRule, condenseWhereRule, formRule}
-use Rattle.check.specs.Trees.{EachByItsRule, andThen, typing}
+use Rattle.language.specs.Faults.{mostReads, unless, first, unaryFault, binaryFault, reduceFault, trimFault, sliceFault, iteratorsFault, condenseFault, condenseWhereFault, formFault, faultOf}
+use Rattle.language.specs.Queries.{Announced, announced, bindAbout, bindingsFault, queryFault, queryPromise, unlessRefused}
+use Rattle.check.specs.Rules.{accepts, announce, unaryRule, binaryRule, reduceRule, trimRule, sliceRule, condenseRule, condenseWhereRule, formRule, queryRule}
+use Rattle.check.specs.Trees.{CheckedInTurn, EachByItsRule, andThen, typing}
 use Rattle.check.proofs.Turns.{in-turn}
 
 module _ (about : Described) (place : ℕ) where
@@ -56,3 +60,22 @@ module _ (about : Described) (place : ℕ) where
             in-turn (iteratorsFault g is place) (iteratorExtents is) (first (faultOf about h place e) own) (part g (form is e)) (λ d. andThen (typing about h place e) (λ p. formRule d p place))
             (sym (in-turn (faultOf about h place e) (part h e) own (part g (form is e)) (λ p. formRule (iteratorExtents is) p place) refl));
       }
+
+-- ---- whole queries
+
+same-answer : (f : Option Refusal) (p : Announced) → unlessRefused f p ≡ accepts f p
+same-answer None p = refl
+same-answer (Some r) p = refl
+
+pub checked-in-turn : CheckedInTurn
+unfolding queryFault
+checked-in-turn find q =
+    let about = bindAbout (q .bindings) find in
+    let e = q .body in
+    let n = queryPromise find q in
+    let whole = announced find q in
+    let last = unless (leb n mostReads) 11 0 in
+    let body = faultOf about noRanges 0 e in
+    same-answer (queryFault find q) whole
+    ∙ in-turn (bindingsFault find [] (q .bindings)) tt (first body last) whole (λ u. andThen (typing about noRanges 0 e) queryRule)
+    (sym (in-turn body (announce (domainOf about e) (kindOf about noRanges e) (promiseOf about e)) last whole queryRule refl))

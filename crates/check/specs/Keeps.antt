@@ -21,7 +21,7 @@ use Rattle.syntax.specs.Tree.{Iterator}
 use Rattle.language.specs.Iterators.{Ranges}
 use Rattle.language.specs.Limits.{RangeInBounds, mostCells, widest}
 use Rattle.language.specs.Queries.{Announced}
-use Rattle.check.specs.Rules.{numeralRule, truthRule, nameRule, iteratorRule, unaryRule, binaryRule, reduceRule, trimRule, sliceRule, condenseRule, condenseWhereRule, formRule}
+use Rattle.check.specs.Rules.{numeralRule, truthRule, nameRule, iteratorRule, unaryRule, binaryRule, reduceRule, trimRule, sliceRule, condenseRule, condenseWhereRule, formRule, queryRule}
 use Rattle.check.specs.Told.{Limited, aboutOf}
 use Rattle.check.specs.Trees.{iteratorsRule}
 
@@ -54,3 +54,4 @@ pub record RulesKeepTheLimits : Type 0 where
   pub condenses : (o : Fold) (n : ℕ) (p : Announced) (place : ℕ) → Limited p → Kept (condenseRule o n p place)
   pub wheres : (o : Fold) (n : ℕ) (w p : Announced) (place : ℕ) → Limited p → Kept (condenseWhereRule o n w p place)
   pub forms : (d : Extents) (p : Announced) (place : ℕ) → Passable d → Limited p → Kept (formRule d p place)
+  pub queries : (p : Announced) → Limited p → Kept (queryRule p)

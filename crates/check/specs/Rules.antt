@@ -1,6 +1,7 @@
 -- The rule of each construct: from what is worked out of its operands, its own domain, kind and promise, or its refusal.
 use Prim.Native.Nat.{ℕ, _+_, _*_}
 use mathlib.Core.Bool.{Bool, _&&_}
+use lib.Dec.{leb}
 use lib.IntN.{pos}
 use Rattle.std.specs.declared.option.Option.{Option}
 use Rattle.std.specs.declared.option.Option.the-variants.{Some, None}
@@ -19,7 +20,7 @@ use Rattle.syntax.specs.declared.Reduce.{Reduce}
 use Rattle.language.specs.Spans.{number, unaryKind, binaryKind, foldKind, widened, reduceKind}
 use Rattle.language.specs.Fits.{operandsFit}
 use Rattle.language.specs.Typing.{About, namedExtents, namedKind, iteratorKind, jointExtents}
-use Rattle.language.specs.Faults.{unless, first, domainsFit, divisorFault, nameFault, iteratorFault, unaryFault, binaryFault, reduceFault, trimFault, sliceFault, condenseFault, condenseWhereFault, formFault}
+use Rattle.language.specs.Faults.{mostReads, unless, first, domainsFit, divisorFault, nameFault, iteratorFault, unaryFault, binaryFault, reduceFault, trimFault, sliceFault, condenseFault, condenseWhereFault, formFault}
 use Rattle.language.specs.Queries.{Announced}
 
 -- a domain, a kind and a promise
@@ -92,3 +93,9 @@ condenseWhereRule o n w p place =
 -- a coverage form has its iterators' domain
 abbrev pub formRule : Extents → Announced → ℕ → Result Announced Refusal
 formRule d p place = accepts (formFault (p .extents) place) (announce d (p .kind) (p .promise))
+
+-- a whole query promises its cells times the promise for a cell; 11 is told at place 0
+abbrev pub queryRule : Announced → Result Announced Refusal
+queryRule p =
+    accepts (unless (leb (cells (p .extents) * p .promise) mostReads) 11 0)
+    (announce (p .extents) (p .kind) (cells (p .extents) * p .promise))

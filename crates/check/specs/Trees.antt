@@ -1,6 +1,6 @@
 -- What is worked out of a tree: each construct by its rule, after its operands in turn.
 use mathlib.Core.Path.{_≡_}
-use mathlib.Core.List.{List}
+use mathlib.Core.List.{List, []}
 use mathlib.Core.Bool.{Bool}
 use Prim.Native.Nat.{ℕ}
 use Rattle.std.specs.declared.result.Result.{Result}
@@ -13,12 +13,12 @@ use Rattle.syntax.specs.declared.Unary.{Unary}
 use Rattle.syntax.specs.declared.Binary.{Binary}
 use Rattle.syntax.specs.declared.Fold.{Fold}
 use Rattle.syntax.specs.declared.Reduce.{Reduce}
-use Rattle.syntax.specs.Tree.{Word, Iterator, Expr, at, numeral, truth, name, iterator, unary, binary, reduce, trim, slice, condense, condenseWhere, form}
-use Rattle.language.specs.Iterators.{Ranges, iteratorExtents, bindRanges}
+use Rattle.syntax.specs.Tree.{Word, Iterator, Expr, at, numeral, truth, name, iterator, unary, binary, reduce, trim, slice, condense, condenseWhere, form, Query}
+use Rattle.language.specs.Iterators.{Ranges, noRanges, iteratorExtents, bindRanges}
 use Rattle.language.specs.Typing.{Described, domainOf, kindOf, promiseOf}
 use Rattle.language.specs.Faults.{iteratorsFault, faultOf}
-use Rattle.language.specs.Queries.{Announced}
-use Rattle.check.specs.Rules.{announce, accepts, numeralRule, truthRule, nameRule, iteratorRule, unaryRule, binaryRule, reduceRule, trimRule, sliceRule, condenseRule, condenseWhereRule, formRule}
+use Rattle.language.specs.Queries.{Announced, bindAbout, bindingsFault, checked}
+use Rattle.check.specs.Rules.{announce, accepts, numeralRule, truthRule, nameRule, iteratorRule, unaryRule, binaryRule, reduceRule, trimRule, sliceRule, condenseRule, condenseWhereRule, formRule, queryRule}
 
 -- what the definitions say of an expression: its domain, kind and promise, or its first refusal
 abbrev pub typing : Described → Ranges → ℕ → Expr → Result Announced Refusal
@@ -56,3 +56,12 @@ pub record EachByItsRule (about : Described) (g : Ranges) (place : ℕ) : Type 0
       ≡ andThen (iteratorsRule g is place) (λ d. andThen (typing about (bindRanges is g) place w) (λ t. andThen (typing about (bindRanges is g) place e) (λ p. condenseWhereRule o (cells d) t p place)))
   pub forms : (is : List Iterator) (e : Expr) →
       typing about g place (form is e) ≡ andThen (iteratorsRule g is place) (λ d. andThen (typing about (bindRanges is g) place e) (λ p. formRule d p place))
+
+-- the bindings of a query, all tested, or their first refusal
+abbrev pub bindingsRule : Described → Query → Result (Unit {0}) Refusal
+bindingsRule find q = accepts (bindingsFault find [] (q .bindings)) tt
+
+-- the check of a query: its bindings, then its body with no iterators in use, then its own promise
+abbrev pub CheckedInTurn : Type 0
+CheckedInTurn = (find : Described) (q : Query) →
+    checked find q ≡ andThen (bindingsRule find q) (λ u. andThen (typing (bindAbout (q .bindings) find) noRanges 0 (q .body)) queryRule)

@@ -31,20 +31,20 @@ impl Reach {
         }
     }
 
-    /// Whether each axis is still its own with one more iterator.
-    fn is_own_after(self, axis: Axis, range: Range) -> bool
+    /// Whether all is still so with one more iterator: its axis is not theirs, and its ends are in order.
+    fn stays_own(self, axis: Axis, range: Range) -> bool
         ensures { λ r. ⌜ r ≡ ((isNone (extents (self .domain) axis) && leZ (range .lo) (range .hi)) && self .own) ⌝ }
     {
         lacks(self.domain, axis) && range.is_ordered() && self.own
     }
 
-    /// One more iterator, before these.
-    pub fn after(self, axis: Axis, range: Range) -> Reach
+    /// These iterators, preceded by one more.
+    pub fn preceded_by(self, axis: Axis, range: Range) -> Reach
         ensures { λ r. ⌜ ((w : Word) (is : List Iterator) → Goes is self → Goes (record { word = w; axis = axis; range = range } ∷ is) r) ⌝ }
     {
         Reach {
             domain: with_axis(self.domain, axis, Some(range)),
-            own: self.is_own_after(axis, range),
+            own: self.stays_own(axis, range),
         }
     }
 }
