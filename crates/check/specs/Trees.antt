@@ -1,4 +1,7 @@
 -- What is worked out of a tree: each construct by its rule, after its operands in turn.
+-- So a walk that holds `told r ≡ typing about g place e` of each part e that it has answered by r needs, at a
+-- construct, only the equation of its rule's function and the line of EachByItsRule for it: where r is Ok the
+-- andThen goes on with it, where r is Err it ends.
 use mathlib.Core.Path.{_≡_}
 use mathlib.Core.List.{List, []}
 use mathlib.Core.Bool.{Bool}
