@@ -1,12 +1,11 @@
 -- What a rule accepts of operands within the limits is itself within them.
 use native.Mathlib.Omega.{arith as linear}
 use mathlib.Core.Path.{_≡_, refl}
-use mathlib.Core.Bool.{Bool, true, cond, _&&_, not}
+use mathlib.Core.Bool.{Bool, true, _&&_, not}
 use mathlib.Core.List.{List}
 use Prim.Native.Nat.{ℕ, _+_, _*_, _≤_}
 use lib.Dec.{leb}
-use lib.Signed.{leZ, _≤ℤ_}
-use borrow.Author.Tests.{leb-true}
+use lib.Signed.{_≤ℤ_}
 use Rattle.std.proofs.shelf.Signed.{ints}
 use Rattle.std.specs.declared.option.Option.{Option}
 use Rattle.std.specs.declared.option.Option.the-variants.{Some, None}
@@ -17,8 +16,8 @@ use Rattle.coverage.specs.declared.refusal.Refusal.{Refusal}
 use Rattle.coverage.specs.declared.description.Description.{Description}
 use Rattle.coverage.specs.Axes.{Extents, Ordered, cells, extents, noAxes, noExtents, sameAxis, setAxis}
 use Rattle.coverage.specs.Kinds.{low, high}
-use Rattle.coverage.specs.Limits.{describable, few, kindNarrow, kindOrdered}
-use Rattle.coverage.proofs.Bools.{and-left, and-right}
+use Rattle.coverage.specs.Limits.{describable}
+use Rattle.coverage.proofs.Bools.{and-right}
 use Rattle.coverage.proofs.Bounds.{bounded-ordered, describable-by, few-cells}
 use Rattle.syntax.specs.declared.Unary.{Unary}
 use Rattle.syntax.specs.declared.Binary.{Binary}
@@ -34,7 +33,7 @@ use Rattle.language.specs.Faults.{mostReads, unless, first, limitsFault, domain
 use Rattle.language.specs.Queries.{Announced}
 use Rattle.language.proofs.Domains.{iterators-ordered, trim-ordered}
 use Rattle.language.proofs.Limits.{tested, truth-bounds, unary-ordered, binary-ordered, fold-ordered, widened-ordered, reduce-ordered}
-use Rattle.language.proofs.Rules.{in-limits, low-promise, one, own-iterators, passes, two}
+use Rattle.language.proofs.Rules.{in-limits, low-promise, own-iterators, passes, two}
 use Rattle.language.proofs.Sizes.{joint-le, one-le, set-le, trim-le}
 use Rattle.language.proofs.Within.{cond-ordered}
 use Rattle.check.specs.Keeps.{Kept, Passable, RulesKeepTheLimits, Through}

@@ -1,13 +1,13 @@
 -- Every construct is worked out by its rule, after its operands.
 use mathlib.Core.Path.{_≡_, refl, sym, _∙_}
-use mathlib.Core.List.{List, []}
+use mathlib.Core.List.{[]}
 use Prim.Native.Nat.{ℕ, _+_, _*_}
 use lib.Dec.{leb}
 use Rattle.std.specs.declared.option.Option.{Option}
 use Rattle.std.specs.declared.option.Option.the-variants.{Some, None}
 use Rattle.coverage.specs.declared.refusal.Refusal.{Refusal}
 use Rattle.coverage.specs.Axes.{cells}
-use Rattle.syntax.specs.Tree.{Iterator, Expr, unary, binary, reduce, trim, slice, condense, condenseWhere, form}
+use Rattle.syntax.specs.Tree.{Expr, unary, binary, reduce, trim, slice, condense, condenseWhere, form}
 use Rattle.language.specs.Iterators.{Ranges, noRanges, iteratorExtents, bindRanges}
 use Rattle.language.specs.Typing.{Described, domainOf, kindOf, promiseOf}
 use Rattle.language.specs.Faults.{mostReads, unless, first, unaryFault, binaryFault, reduceFault, trimFault, sliceFault, iteratorsFault, condenseFault, condenseWhereFault, formFault, faultOf}

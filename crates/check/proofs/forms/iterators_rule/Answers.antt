@@ -1,4 +1,4 @@
-use mathlib.Core.Path.{_≡_, sym, ap, _∙_}
+use mathlib.Core.Path.{sym, ap, _∙_}
 use borrow.Author.Tests.{not-false, not-true}
 use Rattle.coverage.specs.Axes.{Extents, extents}
 use Rattle.coverage.specs.Limits.{few}

@@ -1,4 +1,4 @@
-use mathlib.Core.Path.{_≡_, sym, ap, _∙_}
+use mathlib.Core.Path.{sym, ap, _∙_}
 use Rattle.coverage.specs.declared.kind.Kind.the-variants.{Number}
 use Rattle.coverage.specs.Axes.{extents, noExtents}
 use Rattle.language.specs.Faults.{iteratorFault}

@@ -1,4 +1,4 @@
-use mathlib.Core.Path.{_≡_, sym, ap}
+use mathlib.Core.Path.{sym, ap}
 use Rattle.std.specs.Options.{mapped}
 use Rattle.language.specs.Faults.{nameFault}
 use Rattle.check.specs.Rules.{nameRule}

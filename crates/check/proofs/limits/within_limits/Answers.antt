@@ -1,4 +1,4 @@
-use mathlib.Core.Path.{_≡_, sym, _∙_}
+use mathlib.Core.Path.{sym, _∙_}
 use lib.Dec.{leb}
 use Rattle.coverage.specs.Limits.{kindNarrow}
 use Rattle.language.specs.Faults.{limitsFault, mostReads, unless}

@@ -1,5 +1,5 @@
 use mathlib.Core.Path.{_≡_, refl, sym, ap, _∙_}
-use mathlib.Core.Bool.{_&&_, not, false}
+use mathlib.Core.Bool.{_&&_, not}
 use Prim.Native.Nat.{_+_}
 use borrow.Author.Tests.{not-true}
 use Rattle.std.proofs.shelf.Results.{err-from-errBy}

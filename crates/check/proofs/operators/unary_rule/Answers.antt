@@ -1,4 +1,4 @@
-use mathlib.Core.Path.{_≡_, refl, sym, _∙_}
+use mathlib.Core.Path.{refl, sym, _∙_}
 use Rattle.coverage.specs.Axes.{extents}
 use Rattle.language.specs.Spans.{unaryKind}
 use Rattle.language.specs.Fits.{fitsAs, unaryExpects}

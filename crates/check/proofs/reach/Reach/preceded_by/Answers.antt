@@ -1,8 +1,8 @@
-use mathlib.Core.Path.{_≡_, ap, ap₂, _∙_}
+use mathlib.Core.Path.{ap, ap₂, _∙_}
 use mathlib.Core.Bool.{Bool, _&&_}
 use lib.Signed.{leZ}
 use Rattle.std.specs.declared.option.Option.the-variants.{Some}
-use Rattle.coverage.specs.Axes.{Extents, extents, isNone, setAxis}
+use Rattle.coverage.specs.Axes.{Extents, isNone, setAxis}
 use Rattle.check.proofs.reach.Reach.preceded_by.Needs as need
 
 pub returns : need.returns
