@@ -56,7 +56,7 @@ few-reads about g place (form is e) f = few-reads about (bindRanges is g) place 
 
 -- ---- each rule keeps the ends of spans in order
 
-unary-ordered : (o : Unary) (k : Kind) → low k ≤ℤ high k → low (unaryKind o k) ≤ℤ high (unaryKind o k)
+pub unary-ordered : (o : Unary) (k : Kind) → low k ≤ℤ high k → low (unaryKind o k) ≤ℤ high (unaryKind o k)
 unary-ordered Minus k h = omega (linear, ints)
 unary-ordered Not k h = omega (linear, ints)
 unary-ordered Abs k h = omega (linear, ints, clamps)
@@ -64,7 +64,7 @@ unary-ordered Abs k h = omega (linear, ints, clamps)
 low-high : (a b c d : ℤ) → lowest a b c d ≤ℤ highest a b c d
 low-high a b c d = omega (linear, ints, clamps)
 
-binary-ordered : (o : Binary) (j k : Kind) → low j ≤ℤ high j → low k ≤ℤ high k → low (binaryKind o j k) ≤ℤ high (binaryKind o j k)
+pub binary-ordered : (o : Binary) (j k : Kind) → low j ≤ℤ high j → low k ≤ℤ high k → low (binaryKind o j k) ≤ℤ high (binaryKind o j k)
 unfolding corners
 binary-ordered (Numbers o) j k h l = low-high (arithmetic o (low j) (low k)) (arithmetic o (low j) (high k)) (arithmetic o (high j) (low k)) (arithmetic o (high j) (high k))
 binary-ordered Overlay j k h l = omega (linear, ints, clamps)
@@ -74,33 +74,33 @@ binary-ordered (Truths c) j k h l = omega (linear, ints)
 times-up : (n : ℕ) (a b : ℤ) → a ≤ℤ b → (pos n *ℤ a) ≤ℤ (pos n *ℤ b)
 times-up n a b h = rw (*ℤ-comm (pos n) a, *ℤ-comm (pos n) b) (mul-up a b n h)
 
-fold-ordered : (o : Fold) (n : ℕ) (k : Kind) → low k ≤ℤ high k → low (foldKind o n k) ≤ℤ high (foldKind o n k)
+pub fold-ordered : (o : Fold) (n : ℕ) (k : Kind) → low k ≤ℤ high k → low (foldKind o n k) ≤ℤ high (foldKind o n k)
 fold-ordered Sum n k h = times-up n (low k) (high k) h
 fold-ordered Least n k h = h
 fold-ordered Greatest n k h = h
 fold-ordered Every n k h = omega (linear, ints)
 fold-ordered Any n k h = omega (linear, ints)
 
-widened-ordered : (o : Fold) (k : Kind) → low k ≤ℤ high k → low (widened o k) ≤ℤ high (widened o k)
+pub widened-ordered : (o : Fold) (k : Kind) → low k ≤ℤ high k → low (widened o k) ≤ℤ high (widened o k)
 widened-ordered Sum k h = omega (linear, ints, clamps)
 widened-ordered Least k h = h
 widened-ordered Greatest k h = h
 widened-ordered Every k h = h
 widened-ordered Any k h = h
 
-reduce-ordered : (r : Reduce) (n : ℕ) (k : Kind) → low k ≤ℤ high k → low (reduceKind r n k) ≤ℤ high (reduceKind r n k)
+pub reduce-ordered : (r : Reduce) (n : ℕ) (k : Kind) → low k ≤ℤ high k → low (reduceKind r n k) ≤ℤ high (reduceKind r n k)
 reduce-ordered (Whole o) n k h = fold-ordered o n k h
 reduce-ordered Count n k h = omega (linear, ints)
 
 -- ---- spans
 
-tested : (k : Kind) → kindNarrow k ≡ true → low k ≤ℤ high k → InBounds k
+pub tested : (k : Kind) → kindNarrow k ≡ true → low k ≤ℤ high k → InBounds k
 tested k t o =
     let a = and-left (leZ (negℤ (pos widest)) (low k)) _ t in
     let b = and-right (leZ (negℤ (pos widest)) (low k)) _ t in
     record { least = omega (linear, ints); most = omega (linear, ints); ordered = o }
 
-truth-bounds : InBounds Truth
+pub truth-bounds : InBounds Truth
 truth-bounds = record { least = omega (linear, ints); most = omega (linear, ints); ordered = omega (linear, ints) }
 
 iterator-bounds : (r : Option Range) → RangeInBounds r → InBounds (iteratorKind r)

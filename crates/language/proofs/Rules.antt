@@ -54,7 +54,7 @@ pub record InLimits (k : Kind) (n : ℕ) : Type 0 where
   pub span : kindNarrow k ≡ true
   pub few : n ≤ mostReads
 
-in-limits : (k : Kind) (n place : ℕ) → limitsFault k n place ≡ None → InLimits k n
+pub in-limits : (k : Kind) (n place : ℕ) → limitsFault k n place ≡ None → InLimits k n
 unfolding limitsFault
 in-limits k n place e =
     let s = unless (kindNarrow k) 9 place in
@@ -64,7 +64,7 @@ pub record OwnIterators (is : List Iterator) : Type 0 where
   pub own : ownAxes is ≡ true
   pub few : cells (iteratorExtents is) ≤ mostCells
 
-own-iterators : (g : Ranges) (is : List Iterator) (place : ℕ) → iteratorsFault g is place ≡ None → OwnIterators is
+pub own-iterators : (g : Ranges) (is : List Iterator) (place : ℕ) → iteratorsFault g is place ≡ None → OwnIterators is
 unfolding iteratorsFault
 own-iterators g is place e =
     let rest = two (unless (newWords is g) 5 place) _ e in

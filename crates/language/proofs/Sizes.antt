@@ -28,7 +28,7 @@ over-le : (list : List Axis) (d e : Extents) → ((a : Axis) → sizeOf (d a) �
 over-le [] d e h = omega arith
 over-le (a ∷ rest) d e h = mul-le (sizeOf (d a)) (cellsOver rest d) (sizeOf (e a)) (cellsOver rest e) (h a) (over-le rest d e h)
 
-set-le : (d : Extents) (a : Axis) (r : Option Range) → sizeOf r ≤ sizeOf (d a) → cells (setAxis d a r) ≤ cells d
+pub set-le : (d : Extents) (a : Axis) (r : Option Range) → sizeOf r ≤ sizeOf (d a) → cells (setAxis d a r) ≤ cells d
 set-le d a r h = over-le axes (setAxis d a r) d each
   where
     each : (b : Axis) → sizeOf (setAxis d a r b) ≤ sizeOf (d b)
@@ -38,7 +38,7 @@ set-le d a r h = over-le axes (setAxis d a r) d each
         go true q = subst (λ (c : Axis). sizeOf r ≤ sizeOf (d c)) (axis-of a b q) h
         go false q = omega arith
 
-trim-le : (q : Option Range) (r : Range) → trimInside q r ≡ true → width r ≤ sizeOf q
+pub trim-le : (q : Option Range) (r : Range) → trimInside q r ≡ true → width r ≤ sizeOf q
 trim-le None r t = absurd (clash t)
 trim-le (Some q) r t =
     let o = and-left (leZ (r .lo) (r .hi)) _ t in
@@ -49,7 +49,7 @@ trim-le (Some q) r t =
     let n = above-one (q .lo) (q .hi) (omega (arith, ints)) in
     omega (arith, ints)
 
-one-le : (q : Option Range) → Ordered q → 1 ≤ sizeOf q
+pub one-le : (q : Option Range) → Ordered q → 1 ≤ sizeOf q
 one-le None h = omega arith
 one-le (Some q) h = let n = above-one (q .lo) (q .hi) h in omega (arith, ints)
 
@@ -61,7 +61,7 @@ some-cell d h = over axes
     over [] = omega arith
     over (a ∷ rest) = mul-le 1 1 (sizeOf (d a)) (cellsOver rest d) (one-le (d a) (h a)) (over rest)
 
-joint-le : (b : Bool) (d e : Extents) (n : ℕ) → cells d ≤ n → cells e ≤ n → cells (λ a. cond b (e a) (d a)) ≤ n
+pub joint-le : (b : Bool) (d e : Extents) (n : ℕ) → cells d ≤ n → cells e ≤ n → cells (λ a. cond b (e a) (d a)) ≤ n
 joint-le true d e n h k = k
 joint-le false d e n h k = h
 

@@ -23,7 +23,7 @@ use Rattle.language.proofs.Rules.{name-accepted, iterator-accepted, unary-acce
 use Rattle.language.proofs.Operands.{bit-in, iterator-in, unary-in, binary-in, position-in, position-holds}
 use Rattle.language.proofs.Folds.{reduce-in, whole-in, pick-in, picked-where-in}
 
-cond-ordered : (b : Bool) (q r : Option Range) → Ordered q → Ordered r → Ordered (cond b q r)
+pub cond-ordered : (b : Bool) (q r : Option Range) → Ordered q → Ordered r → Ordered (cond b q r)
 cond-ordered true q r h k = h
 cond-ordered false q r h k = k
 
