@@ -6,40 +6,18 @@ use shelves::RampReceiving;
 use shelves::RampShelf;
 use shelves::check_ramp;
 use shelves::make_ramp;
+use crate::told::looked;
+use crate::told::stripped;
+use crate::told::told;
 use coverage::Description;
 use coverage::Domain;
 use coverage::Point;
 use coverage::Range;
-use shelf::MakingFault;
 use shelf::ReceivingShelf;
 use shelf::Shelf;
 use shelf::ShelfFault;
 use shelf_laws::Slopes;
 use std::test::*;
-
-/// The number of a making's refusal, 0 where it is allowed.
-fn told(answer: Result<(), MakingFault>) -> u32 {
-    match answer {
-        Ok(()) => 0,
-        Err(fault) => fault.refusal().number,
-    }
-}
-
-/// A look's answer, a refusal by its number.
-fn looked(answer: Result<Option<i32>, ShelfFault>) -> Result<Option<i32>, u32> {
-    match answer {
-        Ok(cell) => Ok(cell),
-        Err(fault) => Err(fault.refusal().number),
-    }
-}
-
-/// A strip's answer, a refusal by its number, 0 where it is taken.
-fn stripped(answer: Result<(), ShelfFault>) -> u32 {
-    match answer {
-        Ok(()) => 0,
-        Err(fault) => fault.refusal().number,
-    }
-}
 
 /// The lowest and the highest value of a described coverage.
 fn span(answer: Result<Description, ShelfFault>) -> Option<(i64, i64)> {
