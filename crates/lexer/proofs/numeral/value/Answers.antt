@@ -10,7 +10,7 @@ loop-i-preserved c =
     let i = c.loop-i.i in
     let v = c.loop-i.v in
     let b = get_or ds i 0 in
-    let r : c.min-v.result ≡ min (10 * v + (b - 48)) 2147483648 = c.min-v.ensures ∙ ap (λ x. min (10 * v + x) 2147483648) c.saturating-sub.ensures in
+    let r : c.min-v.result ≡ min (10 * v + (b - 48)) 2147483648 = c.min-v.ensures ∙ ap (λ x. min (10 * v + x) 2147483648) c.saturating_sub.ensures in
     let step : decimal v (drop i ds) ≡ decimal (10 * v + (b - 48)) (drop (i + 1) ds) = at_drop_more (decimal v) ds i 0 (omega arith) in (
       omega arith,
       omega arith,
