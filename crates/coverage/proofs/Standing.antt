@@ -7,7 +7,7 @@ use Rattle.std.proofs.lemmas.Int.{ints}
 use Rattle.coverage.specs.declared.range.Range.{Range}
 use Rattle.coverage.specs.declared.axis.Axis.{Axis}
 use Rattle.coverage.specs.declared.axis.Axis.TheVariants.{X, Y, T}
-use Rattle.coverage.specs.Axes.{Extents, Coordinates, Holds, Inside, Ordered, Sized, above, across, all_over, coord_of, is_none, lowest_on, number_at, number_over, on_axis, origin, point_over, same_axis, same_z, set_axis, size_of, step_of, width}
+use Rattle.coverage.specs.Axes.{Extents, Coordinates, Holds, Inside, Ordered, Sized, above, across, all_over, coord_of, is_none, lowest_on, number_at, number_over, on_axis, origin, point_over, same_axis, same_z, set_axis, size_of, step_of}
 use Rattle.coverage.specs.Strips.{Raised, Stands, in_strip, row_width, strip_at, strip_first, strip_point, strips}
 use Rattle.coverage.proofs.Bools.{and_left, and_right, and_both}
 use Rattle.coverage.proofs.Points.{all_members, axis_of_lem, each_over, holds_on, member, on_holds, point_over_inside, present, put_inside}

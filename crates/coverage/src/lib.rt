@@ -1,5 +1,7 @@
 // Coverages by their parts: axes, ranges, domains, points, kinds, names, descriptions, and how a
 // refusal is told. What each part means is in specs/.
+#![tactic(auto)]
+
 pub mod axis;
 pub mod description;
 pub mod domain;

@@ -7,8 +7,8 @@ use Rattle.coverage.specs.Axes.{cells_over, extents, size_of}
 use Rattle.coverage.proofs.Caps.{cap_turn}
 use Rattle.coverage.proofs.domain.Domain.cells_over.Goals as goal
 
-pub overflow-mul-n : goal.overflow-mul-n
-overflow-mul-n c =
+pub overflow_mul-n : goal.overflow_mul-n
+overflow_mul-n c =
     let p : c.places.result ≤ 65537 = omega (arith, min-le_right (size_of c.on.result) 65537) in
     let m = mul-le c.loop-axis.n c.places.result 65537 65537 c.loop-axis.invariant.1 p in
     search rules

@@ -13,8 +13,8 @@ step-requires c =
     let r = room c.args.axes.now (extents c.args.self) (coordinates c.args.p) c.loop-axis.axis-index c.requires.inside c.requires.few c.loop-axis-test.true c.loop-axis.n c.loop-axis.stride c.loop-axis.invariant in
     record { inside = c.requires.inside (get_or c.args.axes.now c.loop-axis.axis-index X); few = r.0 }
 
-pub overflow-mul-n : goal.overflow-mul-n
-overflow-mul-n c =
+pub overflow_mul-n : goal.overflow_mul-n
+overflow_mul-n c =
     let list = c.args.axes.now in
     let d = extents c.args.self in
     let p = coordinates c.args.p in
@@ -26,8 +26,8 @@ overflow-mul-n c =
     let b = k.below in
     search rules
 
-pub overflow-add-n : goal.overflow-add-n
-overflow-add-n c =
+pub overflow_add-n : goal.overflow_add-n
+overflow_add-n c =
     let list = c.args.axes.now in
     let d = extents c.args.self in
     let p = coordinates c.args.p in
@@ -39,8 +39,8 @@ overflow-add-n c =
     let b = k.below in
     search rules
 
-pub overflow-mul-stride : goal.overflow-mul-stride
-overflow-mul-stride c =
+pub overflow_mul-stride : goal.overflow_mul-stride
+overflow_mul-stride c =
     let list = c.args.axes.now in
     let d = extents c.args.self in
     let p = coordinates c.args.p in

@@ -5,4 +5,4 @@ use Rattle.coverage.proofs.domain.Domain.point_of.Goals as goal
 
 pub returns : goal.returns
 unfolding point_at
-returns c = λ a. c.point-over.ensures a ∙ ap (λ o. point_over axes (extents c.args.self) c.args.n o a) origin_is
+returns c = λ a. c.point_over.ensures a ∙ ap (λ o. point_over axes (extents c.args.self) c.args.n o a) origin_is

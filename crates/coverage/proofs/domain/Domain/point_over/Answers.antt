@@ -20,14 +20,14 @@ raised-p-requires c =
 places_some : (s k : ℕ) → 0 < s → k ≡ min s 65537 → 0 < k
 places_some s k h e = search (rules, e)
 
-pub nonzero-rem-n : goal.nonzero-rem-n
-nonzero-rem-n c =
+pub nonzero_rem-n : goal.nonzero_rem-n
+nonzero_rem-n c =
     let a = get_or c.args.axes.now c.loop-axis.axis-index X in
     let k = places_some (size_of (extents c.args.self a)) c.places-size.result (c.requires.sized a).0 (c.places-size.ensures ∙ ap (λ x. min (size_of x) 65537) c.on.ensures) in
     search rules
 
-pub nonzero-div-n : goal.nonzero-div-n
-nonzero-div-n c =
+pub nonzero_div-n : goal.nonzero_div-n
+nonzero_div-n c =
     let a = get_or c.args.axes.now c.loop-axis.axis-index X in
     let k = places_some (size_of (extents c.args.self a)) c.places-size.result (c.requires.sized a).0 (c.places-size.ensures ∙ ap (λ x. min (size_of x) 65537) c.on.ensures) in
     search rules

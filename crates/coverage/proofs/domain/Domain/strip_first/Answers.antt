@@ -1,4 +1,4 @@
-use Rattle.std.proofs.Common.{◌≡◌, cond, ℤ, ◌∙◌, ap₂, w64, to_z, of_z}
+use Rattle.std.proofs.Common.{◌≡◌, cond, ℤ, ◌∙◌, ap₂, w64, to_z, of_z, rules}
 use mathlib.Core.Path.{fun_ext}
 use Rattle.std.proofs.lemmas.Int.{to_z-of_z}
 use Rattle.coverage.specs.declared.axis.Axis.{Axis}
@@ -14,5 +14,5 @@ moved p q v w r e f h = fun_ext (λ a. h a ∙ ap₂ (λ x y. cond (same_axis X 
 pub returns : goal.returns
 returns c =
     let d = extents c.args.self in
-    let low : to_z w64 (of_z w64 c.lowest.result) ≡ lowest_on (d X) = to_z-of_z w64 c.lowest.result (record { sfits = c.lowest.type-inv }) ∙ c.lowest.ensures in
-    moved (coordinates c.strip-point.result) (strip_point d c.args.n) _ _ (coordinates c.with.result) c.strip-point.ensures.place low c.with.ensures
+    let low : to_z w64 (of_z w64 c.lowest.result) ≡ lowest_on (d X) = to_z-of_z w64 c.lowest.result (search rules) ∙ c.lowest.ensures in
+    moved (coordinates c.strip_point.result) (strip_point d c.args.n) _ _ (coordinates c.with.result) c.strip_point.ensures.place low c.with.ensures

@@ -3,4 +3,4 @@ use Rattle.coverage.proofs.domain.Domain.strip_number.Goals as goal
 
 pub returns : goal.returns
 unfolding strip_at
-returns c = c.number-over.ensures
+returns c = c.number_over.ensures

@@ -11,9 +11,9 @@ pub returns : goal.returns
 unfolding strip_point
 returns c =
     let d = extents c.args.self in
-    let e : (a : Axis) → coordinates c.point-over.result a ≡ strip_point d c.args.n a =
-    λ a. c.point-over.ensures a ∙ ap (λ o. point_over across d c.args.n o a) origin_is in
+    let e : (a : Axis) → coordinates c.point_over.result a ≡ strip_point d c.args.n a =
+    λ a. c.point_over.ensures a ∙ ap (λ o. point_over across d c.args.n o a) origin_is in
     record {
       place = e;
-      stands = λ h. stands_as d c.args.n (coordinates c.point-over.result) (strip_point d c.args.n) (e Y) (e T) (strip_stands d c.args.n c.requires.sized h);
+      stands = λ h. stands_as d c.args.n (coordinates c.point_over.result) (strip_point d c.args.n) (e Y) (e T) (strip_stands d c.args.n c.requires.sized h);
     }

@@ -1,9 +1,7 @@
 use Rattle.std.proofs.Common.{◌≡◌, ℕ, ◌≤◌, min, leb, List, length, take, sym, ap, ◌∙◌, arith, rules, leb-false, leb-true}
 use native.Mathlib.Nat.{min-eq_left, min-eq_right, sub-zero}
 use Rattle.std.specs.Str.{bytes_eq}
-use Rattle.std.proofs.lemmas.Slice.Eq.{slice_eq-Decides, bytes_eq-Decides}
 use Rattle.std.proofs.lemmas.List.{take_all}
-use Rattle.std.proofs.lemmas.Bool.Decides.{same_from_decides, Decides-eqb}
 use Rattle.coverage.proofs.Bools.{by_test}
 use Rattle.coverage.proofs.name.Name.is.Goals as goal
 
@@ -18,6 +16,5 @@ front_capped n k xs l =
 pub returns : goal.returns
 returns c =
     let bs = c.args.self.bytes in
-    let e = same_from_decides c.eq.result _ (slice_eq-Decides Decides-eqb _ _ _ c.eq.ensures) (bytes_eq-Decides _ _) in
     let long : length bs ≡ 16 = search rules in
-    e ∙ ap (λ (xs : List ℕ). bytes_eq xs c.args.text.now) (ap (λ m. take m bs) (sub-zero c.min-len.result ∙ c.min-len.ensures) ∙ front_capped c.args.self.len 16 bs long)
+    c.eq.ensures ∙ ap (λ (xs : List ℕ). bytes_eq xs c.args.text.now) (ap (λ m. take m bs) (sub-zero c.min-len.result ∙ c.min-len.ensures) ∙ front_capped c.args.self.len 16 bs long)

@@ -9,5 +9,5 @@ pub returns : goal.returns
 returns c =
     let text = c.args.text.now in
     let some : List ℕ → Option (List ℕ) = λ xs. Some xs in
-    ap some (front_of c.copy-from-slice.new.self text _ c.copy-from-slice.ensures.after)
-    ∙ ap (λ b. cond b (some text) None) c.if-not-is-name.ensures
+    ap some (front_of c.copy_from_slice.new.self text _ c.copy_from_slice.ensures.after)
+    ∙ ap (λ b. cond b (some text) None) c.if-not-is_name.ensures
