@@ -16,7 +16,7 @@ use Rattle.syntax.specs.declared.Arithmetic.TheVariants.{Plus, Subtract, Multipl
 use Rattle.syntax.specs.declared.Binary.{Binary}
 use Rattle.syntax.specs.declared.Binary.TheVariants.{Numbers, Overlay, Compares, Truths}
 use Rattle.language.specs.Operators.{bit, is_zero, is_true, arithmetic, compares, connects, unary_value, binary_value}
-use Rattle.language.specs.Spans.{span, span_of, corners, holds_zero, unary_kind, binary_kind}
+use Rattle.language.specs.Spans.{span_of, corners, holds_zero, unary_kind, binary_kind}
 use Rattle.language.specs.Fits.{a_number, a_truth, fits_as}
 use Rattle.language.specs.Typing.{iterator_kind}
 use Rattle.language.specs.Faults.{is_division, position_inside}

@@ -1,5 +1,5 @@
 -- How many looks at cells a run takes: every one by a `$` name counts, repeats included.
-use Rattle.std.specs.Prelude.{ℕ, zero, suc, ◌+◌, false, cond, ℤ, Some, None, Option}
+use Rattle.std.specs.Prelude.{ℕ, zero, suc, ◌+◌, cond, ℤ, Some, None, Option}
 use Rattle.coverage.specs.Axes.{Coordinates, put, cells, point_at}
 use Rattle.syntax.specs.Tree.{Expr, at, numeral, truth, name, iterator, unary, binary, reduce, trim, slice, condense, condense_where, form}
 use Rattle.language.specs.Operators.{is_true}

@@ -1,5 +1,5 @@
 -- What the run gives: the value of one cell, or null.
-use Rattle.std.specs.Prelude.{ℕ, zero, suc, true, false, cond, ℤ, pos, ◌+ℤ◌, Some, None, Option}
+use Rattle.std.specs.Prelude.{ℕ, zero, suc, cond, ℤ, pos, ◌+ℤ◌, Some, None, Option}
 use Rattle.std.specs.Int.{int_min, int_max}
 use Rattle.coverage.specs.Axes.{Coordinates, put, cells, point_at}
 use Rattle.syntax.specs.declared.Fold.{Fold}

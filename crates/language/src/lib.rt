@@ -3,6 +3,8 @@
 //! (the check), goes on with Values and Reads (the run) and ends with Queries, the laws (Laws, Limits,
 //! Results) and cases worked through (Worked, Constructs).
 //! There is no code of check or run here: each function's contract is a law of those definitions.
+#![tactic(auto)]
+
 pub mod laws;
 
 pub use laws::{

@@ -1,4 +1,5 @@
 // The parts of a query's text once it is read: operators, functions, and (in specs/) the tree.
+#![tactic(auto)]
 
 /// Prefixes, and the function `abs`, which works cell by cell as they do.
 #[derive(Clone, Copy)]

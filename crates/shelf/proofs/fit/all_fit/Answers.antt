@@ -4,8 +4,8 @@ use Rattle.std.proofs.lemmas.List.{at_drop_more, at_drop_all}
 use Rattle.shelf.specs.Meaning.{all_fit}
 use Rattle.shelf.proofs.fit.all_fit.Goals as goal
 
-pub returns-then-not-is-fit : goal.returns-then-not-is-fit
-returns-then-not-is-fit c =
+pub returns-then-not-is_fit : goal.returns-then-not-is_fit
+returns-then-not-is_fit c =
     let k = c.args.kind in
     let cs = c.args.cells.now in
     let i = c.loop-v.v-index in

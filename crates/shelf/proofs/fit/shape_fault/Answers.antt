@@ -12,16 +12,16 @@ returns-then-strip-strips c =
     let h : strips (extents a.domain) ≤ c.args.strip = omega (arith, s, c.if-strip-strips.true) in
     sym (shape_by a c.args.coverage c.args.strip c.args.cells.now true false _ (not-false _ c.if-not-about.false) (le-ltb _ _ h) refl)
 
-pub returns-then-not-is-row : goal.returns-then-not-is-row
-returns-then-not-is-row c =
+pub returns-then-not-is_row : goal.returns-then-not-is_row
+returns-then-not-is_row c =
     let a = c.args.about in
     let s : c.strips.result ≡ strips (extents a.domain) = c.strips.ensures ∙ strips_counted a c.requires in
     let h : c.args.strip < strips (extents a.domain) = omega (arith, s, c.if-strip-strips.false) in
-    sym (shape_by a c.args.coverage c.args.strip c.args.cells.now true true false (not-false _ c.if-not-about.false) (lt-ltb _ _ h) (sym c.if-not-is-row.ensures))
+    sym (shape_by a c.args.coverage c.args.strip c.args.cells.now true true false (not-false _ c.if-not-about.false) (lt-ltb _ _ h) (sym c.if-not-is_row.ensures))
 
 pub returns : goal.returns
 returns c =
     let a = c.args.about in
     let s : c.strips.result ≡ strips (extents a.domain) = c.strips.ensures ∙ strips_counted a c.requires in
     let h : c.args.strip < strips (extents a.domain) = omega (arith, s, c.if-strip-strips.false) in
-    sym (shape_by a c.args.coverage c.args.strip c.args.cells.now true true true (not-false _ c.if-not-about.false) (lt-ltb _ _ h) (sym c.if-not-is-row.ensures))
+    sym (shape_by a c.args.coverage c.args.strip c.args.cells.now true true true (not-false _ c.if-not-about.false) (lt-ltb _ _ h) (sym c.if-not-is_row.ensures))
