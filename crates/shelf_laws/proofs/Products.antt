@@ -1,5 +1,5 @@
 -- Products of signed numbers: between those of the ends, and small where the factors are.
-use Rattle.std.proofs.Common.{ℕ, suc, ◌+◌, ◌*◌, ◌≤◌, ℤ, pos, negsuc, ◌+ℤ◌, ◌*ℤ◌, ◌≤ℤ◌, arith, w32, w64, SFits}
+use Rattle.std.proofs.Common.{ℕ, suc, ◌≤◌, ℤ, pos, negsuc, ◌+ℤ◌, ◌*ℤ◌, ◌≤ℤ◌, arith, w32, w64, SFits}
 use lib.IntN.{*ℤ_comm}
 use lib.Signed.{mag}
 use Rattle.std.specs.Int.{int_min, int_max}

@@ -20,7 +20,7 @@ loop-axis-init c =
 pub rises-rises-requires : goal.rises-rises-requires
 rises-rises-requires c =
     let a = get_or axes c.loop-axis.axis-index X in
-    let s = to_z-of_z w64 c.on-in-loop-axis.result (record { sfits = c.on-in-loop-axis.type-inv }) ∙ c.on-in-loop-axis.ensures in
+    let s = to_z-of_z w64 c.on-in-loop-axis.result (record { sfits = c.on-in-loop-axis.type_inv }) ∙ c.on-in-loop-axis.ensures in
     record {
       bounded = ap axis_bounded c.on.ensures ∙ each_bounded (extents c.args.domain) c.requires.bounded a;
       mild = ap is_mild s ∙ each_mild (gradient c.args.slopes) c.requires.mild a;
@@ -32,23 +32,23 @@ end_turn : (f : Axis → ℤ) (offset : ℤ) (i : ℕ) (v w : ℤ) → Summed f 
 end_turn f offset i v w k h e s =
     sum_turn f offset i v w _ _ k h e s (to_z-of_z w64 v (fits_64 (100000000 * (i + 1)) v (omega arith) k.small)) (to_z-of_z w64 w (fits_64 100000000 w (omega arith) s))
 
-pub overflow-add-span : goal.overflow-add-span
-overflow-add-span c =
+pub overflow_add-span : goal.overflow_add-span
+overflow_add-span c =
     let d = extents c.args.domain in
     let g = gradient c.args.slopes in
     let a = get_or axes c.loop-axis.axis-index X in
-    let s = to_z-of_z w64 c.on-in-loop-axis.result (record { sfits = c.on-in-loop-axis.type-inv }) ∙ c.on-in-loop-axis.ensures in
+    let s = to_z-of_z w64 c.on-in-loop-axis.result (record { sfits = c.on-in-loop-axis.type_inv }) ∙ c.on-in-loop-axis.ensures in
     let w : c.rises-rises.result ≡ rises (d a) (g a) = c.rises-rises.ensures ∙ ap₂ rises c.on.ensures s in
     let small = rises_small (d a) (g a) (each_bounded d c.requires.bounded a) (each_mild g c.requires.mild a) in
     (end_turn (least d g) _ c.loop-axis.axis-index c.loop-axis.span.lo c.rises-rises.result.lo c.loop-axis.invariant.0 c.loop-axis-test.true
     (ap (λ (r : Range). r.lo) w) (subst (λ (r : Range). Small 100000000 r.lo) (sym w) small.0)).0
 
-pub overflow-add-span-in-loop-axis : goal.overflow-add-span-in-loop-axis
-overflow-add-span-in-loop-axis c =
+pub overflow_add-span-in-loop-axis : goal.overflow_add-span-in-loop-axis
+overflow_add-span-in-loop-axis c =
     let d = extents c.args.domain in
     let g = gradient c.args.slopes in
     let a = get_or axes c.loop-axis.axis-index X in
-    let s = to_z-of_z w64 c.on-in-loop-axis.result (record { sfits = c.on-in-loop-axis.type-inv }) ∙ c.on-in-loop-axis.ensures in
+    let s = to_z-of_z w64 c.on-in-loop-axis.result (record { sfits = c.on-in-loop-axis.type_inv }) ∙ c.on-in-loop-axis.ensures in
     let w : c.rises-rises.result ≡ rises (d a) (g a) = c.rises-rises.ensures ∙ ap₂ rises c.on.ensures s in
     let small = rises_small (d a) (g a) (each_bounded d c.requires.bounded a) (each_mild g c.requires.mild a) in
     (end_turn (most d g) _ c.loop-axis.axis-index c.loop-axis.span.hi c.rises-rises.result.hi c.loop-axis.invariant.1 c.loop-axis-test.true
@@ -59,7 +59,7 @@ loop-axis-preserved c =
     let d = extents c.args.domain in
     let g = gradient c.args.slopes in
     let a = get_or axes c.loop-axis.axis-index X in
-    let s = to_z-of_z w64 c.on-in-loop-axis.result (record { sfits = c.on-in-loop-axis.type-inv }) ∙ c.on-in-loop-axis.ensures in
+    let s = to_z-of_z w64 c.on-in-loop-axis.result (record { sfits = c.on-in-loop-axis.type_inv }) ∙ c.on-in-loop-axis.ensures in
     let w : c.rises-rises.result ≡ rises (d a) (g a) = c.rises-rises.ensures ∙ ap₂ rises c.on.ensures s in
     let small = rises_small (d a) (g a) (each_bounded d c.requires.bounded a) (each_mild g c.requires.mild a) in (
       (end_turn (least d g) _ c.loop-axis.axis-index c.loop-axis.span.lo c.rises-rises.result.lo c.loop-axis.invariant.0 c.loop-axis-test.true

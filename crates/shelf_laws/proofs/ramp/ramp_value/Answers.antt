@@ -1,4 +1,4 @@
-use Rattle.std.proofs.Common.{◌≡◌, get_or, ℤ, ◌+ℤ◌, sym, refl, ap, ◌∙◌, subst, ap₂, arith, w64}
+use Rattle.std.proofs.Common.{◌≡◌, get_or, ◌+ℤ◌, sym, refl, ap, ◌∙◌, subst, ap₂, arith, w64}
 use Rattle.std.proofs.lemmas.Int.{to_z-of_z}
 use Rattle.coverage.specs.declared.axis.Axis.TheVariants.{X}
 use Rattle.coverage.specs.Axes.{axes, coordinates, extents, on_axis}
@@ -18,26 +18,26 @@ pub rise-v-requires : goal.rise-v-requires
 rise-v-requires c =
     let d = extents c.args.domain in
     let a = get_or axes c.loop-axis.axis-index X in
-    let s = to_z-of_z w64 c.on-in-loop-axis.result (record { sfits = c.on-in-loop-axis.type-inv }) ∙ c.on-in-loop-axis.ensures in
-    let v = to_z-of_z w64 c.on-in-loop-axis-2.result (record { sfits = c.on-in-loop-axis-2.type-inv }) ∙ c.on-in-loop-axis-2.ensures in
+    let s = to_z-of_z w64 c.on-in-loop-axis.result (record { sfits = c.on-in-loop-axis.type_inv }) ∙ c.on-in-loop-axis.ensures in
+    let v = to_z-of_z w64 c.on-in-loop-axis-2.result (record { sfits = c.on-in-loop-axis-2.type_inv }) ∙ c.on-in-loop-axis-2.ensures in
     record {
       bounded = ap axis_bounded c.on.ensures ∙ each_bounded d c.requires.bounded a;
       on = ap₂ on_axis c.on.ensures v ∙ each (λ b. on_axis (d b) (coordinates c.args.at b)) c.requires.inside a;
       mild = ap is_mild s ∙ each_mild (gradient c.args.slopes) c.requires.mild a;
     }
 
-pub overflow-add-v : goal.overflow-add-v
-overflow-add-v c =
+pub overflow_add-v : goal.overflow_add-v
+overflow_add-v c =
     let d = extents c.args.domain in
     let g = gradient c.args.slopes in
     let p = coordinates c.args.at in
     let a = get_or axes c.loop-axis.axis-index X in
-    let s = to_z-of_z w64 c.on-in-loop-axis.result (record { sfits = c.on-in-loop-axis.type-inv }) ∙ c.on-in-loop-axis.ensures in
-    let v = to_z-of_z w64 c.on-in-loop-axis-2.result (record { sfits = c.on-in-loop-axis-2.type-inv }) ∙ c.on-in-loop-axis-2.ensures in
+    let s = to_z-of_z w64 c.on-in-loop-axis.result (record { sfits = c.on-in-loop-axis.type_inv }) ∙ c.on-in-loop-axis.ensures in
+    let v = to_z-of_z w64 c.on-in-loop-axis-2.result (record { sfits = c.on-in-loop-axis-2.type_inv }) ∙ c.on-in-loop-axis-2.ensures in
     let w : c.rise-v.result ≡ rise_at d g p a = c.rise-v.ensures ∙ (ap₂ (rise c.on.result) s v ∙ ap (λ r. rise r (g a) (p a)) c.on.ensures) in
     let small = rise_small (d a) (g a) (p a) (each_bounded d c.requires.bounded a) (inside_from d p c.requires.inside a) (each_mild g c.requires.mild a) in
     (sum_turn (rise_at d g p) _ c.loop-axis.axis-index _ c.rise-v.result _ _ c.loop-axis.invariant c.loop-axis-test.true w (subst (Small 100000000) (sym w) small)
-    refl (to_z-of_z w64 c.rise-v.result (record { sfits = c.rise-v.type-inv }))).0
+    refl (to_z-of_z w64 c.rise-v.result (record { sfits = c.rise-v.type_inv }))).0
 
 pub loop-axis-preserved : goal.loop-axis-preserved
 loop-axis-preserved c =
@@ -45,12 +45,12 @@ loop-axis-preserved c =
     let g = gradient c.args.slopes in
     let p = coordinates c.args.at in
     let a = get_or axes c.loop-axis.axis-index X in
-    let s = to_z-of_z w64 c.on-in-loop-axis.result (record { sfits = c.on-in-loop-axis.type-inv }) ∙ c.on-in-loop-axis.ensures in
-    let v = to_z-of_z w64 c.on-in-loop-axis-2.result (record { sfits = c.on-in-loop-axis-2.type-inv }) ∙ c.on-in-loop-axis-2.ensures in
+    let s = to_z-of_z w64 c.on-in-loop-axis.result (record { sfits = c.on-in-loop-axis.type_inv }) ∙ c.on-in-loop-axis.ensures in
+    let v = to_z-of_z w64 c.on-in-loop-axis-2.result (record { sfits = c.on-in-loop-axis-2.type_inv }) ∙ c.on-in-loop-axis-2.ensures in
     let w : c.rise-v.result ≡ rise_at d g p a = c.rise-v.ensures ∙ (ap₂ (rise c.on.result) s v ∙ ap (λ r. rise r (g a) (p a)) c.on.ensures) in
     let small = rise_small (d a) (g a) (p a) (each_bounded d c.requires.bounded a) (inside_from d p c.requires.inside a) (each_mild g c.requires.mild a) in
     (sum_turn (rise_at d g p) _ c.loop-axis.axis-index _ c.rise-v.result _ _ c.loop-axis.invariant c.loop-axis-test.true w (subst (Small 100000000) (sym w) small)
-    refl (to_z-of_z w64 c.rise-v.result (record { sfits = c.rise-v.type-inv }))).1
+    refl (to_z-of_z w64 c.rise-v.result (record { sfits = c.rise-v.type_inv }))).1
 
 pub returns : goal.returns
 returns c =

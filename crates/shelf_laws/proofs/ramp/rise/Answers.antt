@@ -13,8 +13,8 @@ product_fits : (axis : Option Range) (r : Range) (s v : ℤ) → axis ≡ Some r
 product_fits axis r s v e h k m =
     fits_64 100000000 (s *ℤ v) (omega arith) (rise_small (Some r) s v (ap axis_bounded (sym e) ∙ h) (on_holds (Some r) v (ap (λ x. on_axis x v) (sym e) ∙ k)) m)
 
-pub overflow-mul-result : goal.overflow-mul-result
-overflow-mul-result c =
+pub overflow_mul-result : goal.overflow_mul-result
+overflow_mul-result c =
     let p = product_fits c.args.axis c.in-Some.field-0 c.args.slope c.args.v c.in-Some.is c.requires.bounded c.requires.on c.requires.mild in
     rw (to_z-of_z w64 c.args.slope c.ranges.slope, to_z-of_z w64 c.args.v c.ranges.v) p
 

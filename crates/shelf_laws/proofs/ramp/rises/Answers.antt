@@ -15,14 +15,14 @@ ends_fit axis r s e h m =
     let ends = ends_hold r b in
     (fits_64 100000000 (s *ℤ r.lo) (omega arith) (rise_small (Some r) s r.lo b ends.0 m), fits_64 100000000 (s *ℤ r.hi) (omega arith) (rise_small (Some r) s r.hi b ends.1 m))
 
-pub overflow-mul-near : goal.overflow-mul-near
-overflow-mul-near c =
+pub overflow_mul-near : goal.overflow_mul-near
+overflow_mul-near c =
     let p = ends_fit c.args.axis c.in-Some.range c.args.slope c.in-Some.is c.requires.bounded c.requires.mild in
     let f : SFits w64 c.in-Some.range.lo = search rules in
     rw (to_z-of_z w64 c.args.slope c.ranges.slope, to_z-of_z w64 c.in-Some.range.lo f) p.0
 
-pub overflow-mul-far : goal.overflow-mul-far
-overflow-mul-far c =
+pub overflow_mul-far : goal.overflow_mul-far
+overflow_mul-far c =
     let p = ends_fit c.args.axis c.in-Some.range c.args.slope c.in-Some.is c.requires.bounded c.requires.mild in
     let f : SFits w64 c.in-Some.range.hi = search rules in
     rw (to_z-of_z w64 c.args.slope c.ranges.slope, to_z-of_z w64 c.in-Some.range.hi f) p.1
@@ -43,6 +43,6 @@ returns-in-Some c =
     let far : to_z w64 (of_z w64 (to_z w64 (of_z w64 s) *ℤ to_z w64 (of_z w64 r.hi))) ≡ s *ℤ r.hi =
     rw (to_z-of_z w64 s c.ranges.slope, to_z-of_z w64 r.hi fh) (to_z-of_z w64 _ p.1) in
     made r s _ _
-    (to_z-of_z w64 c.min.result (record { sfits = c.min.type-inv }) ∙ (c.min.ensures.value ∙ ap₂ int_min near far))
-    (to_z-of_z w64 c.max.result (record { sfits = c.max.type-inv }) ∙ (c.max.ensures.value ∙ ap₂ int_max near far))
+    (to_z-of_z w64 c.min.result (record { sfits = c.min.type_inv }) ∙ (c.min.ensures.value ∙ ap₂ int_min near far))
+    (to_z-of_z w64 c.max.result (record { sfits = c.max.type_inv }) ∙ (c.max.ensures.value ∙ ap₂ int_max near far))
     ∙ ap (λ x. rises x s) (sym c.in-Some.is)

@@ -5,26 +5,26 @@ use Rattle.spans.specs.Pairs.{spanned}
 use Rattle.spans.proofs.Fitting.{low_small, high_small, product_fits}
 use Rattle.spans.proofs.arithmetic.product.Goals as goal
 
-pub overflow-mul-a : goal.overflow-mul-a
-overflow-mul-a c =
+pub overflow_mul-a : goal.overflow_mul-a
+overflow_mul-a c =
     let f1 : SFits w64 c.args.a.0 = search rules in
     let f2 : SFits w64 c.args.b.0 = search rules in
     rw (to_z-of_z w64 _ f1, to_z-of_z w64 _ f2) (product_fits c.args.a.0 c.args.b.0 (low_small c.args.a c.requires.left) (low_small c.args.b c.requires.right))
 
-pub overflow-mul-a-2 : goal.overflow-mul-a-2
-overflow-mul-a-2 c =
+pub overflow_mul-a-2 : goal.overflow_mul-a-2
+overflow_mul-a-2 c =
     let f1 : SFits w64 c.args.a.0 = search rules in
     let f2 : SFits w64 c.args.b.1 = search rules in
     rw (to_z-of_z w64 _ f1, to_z-of_z w64 _ f2) (product_fits c.args.a.0 c.args.b.1 (low_small c.args.a c.requires.left) (high_small c.args.b c.requires.right))
 
-pub overflow-mul-a-3 : goal.overflow-mul-a-3
-overflow-mul-a-3 c =
+pub overflow_mul-a-3 : goal.overflow_mul-a-3
+overflow_mul-a-3 c =
     let f1 : SFits w64 c.args.a.1 = search rules in
     let f2 : SFits w64 c.args.b.0 = search rules in
     rw (to_z-of_z w64 _ f1, to_z-of_z w64 _ f2) (product_fits c.args.a.1 c.args.b.0 (high_small c.args.a c.requires.left) (low_small c.args.b c.requires.right))
 
-pub overflow-mul-a-4 : goal.overflow-mul-a-4
-overflow-mul-a-4 c =
+pub overflow_mul-a-4 : goal.overflow_mul-a-4
+overflow_mul-a-4 c =
     let f1 : SFits w64 c.args.a.1 = search rules in
     let f2 : SFits w64 c.args.b.1 = search rules in
     rw (to_z-of_z w64 _ f1, to_z-of_z w64 _ f2) (product_fits c.args.a.1 c.args.b.1 (high_small c.args.a c.requires.left) (high_small c.args.b c.requires.right))

@@ -48,7 +48,7 @@ overflow-cast-result c =
     let b = (describable_by a (described_by a (ap fixed_ok (sym r.0) ∙ me.described))).axes_bounded in
     let f : SFits w64 me.offset = search rules in
     let v : to_z w64 (of_z w64 c.ramp-value-v.result) ≡ ramp_value g me.offset d p =
-    to_z-of_z w64 c.ramp-value-v.result (record { sfits = c.ramp-value-v.type-inv }) ∙ (c.ramp-value-v.ensures ∙ ap (λ o. ramp_value g o d p) (to_z-of_z w64 me.offset f)) in
+    to_z-of_z w64 c.ramp-value-v.result (record { sfits = c.ramp-value-v.type_inv }) ∙ (c.ramp-value-v.ensures ∙ ap (λ o. ramp_value g o d p) (to_z-of_z w64 me.offset f)) in
     subst (SFits w32) (sym v) (fits_32 2000000000 (ramp_value g me.offset d p) (omega arith) (value_small g me.offset d p b s.mild s.near (inside_from d p r.1)))
 
 pub returns : goal.returns
@@ -66,7 +66,7 @@ returns c =
     let b = (describable_by a (described_by a (ap fixed_ok (sym r.0) ∙ me.described))).axes_bounded in
     let f : SFits w64 me.offset = search rules in
     let v : to_z w64 (of_z w64 c.ramp-value-v.result) ≡ ramp_value g me.offset d p =
-    to_z-of_z w64 c.ramp-value-v.result (record { sfits = c.ramp-value-v.type-inv }) ∙ (c.ramp-value-v.ensures ∙ ap (λ o. ramp_value g o d p) (to_z-of_z w64 me.offset f)) in
+    to_z-of_z w64 c.ramp-value-v.result (record { sfits = c.ramp-value-v.type_inv }) ∙ (c.ramp-value-v.ensures ∙ ap (λ o. ramp_value g o d p) (to_z-of_z w64 me.offset f)) in
     let narrow = fits_32 2000000000 (ramp_value g me.offset d p) (omega arith) (value_small g me.offset d p b s.mild s.near (inside_from d p r.1)) in
     ap ok (ap (λ x. to_z w32 (of_z w32 x)) v ∙ to_z-of_z w32 (ramp_value g me.offset d p) narrow)
     ∙ sym (look_reached me.about cell c.args.coverage p ∙ (ap (λ x. seen cell x p) is ∙ ap ok (settled_value g me.offset d p)))
