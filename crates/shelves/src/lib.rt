@@ -1,4 +1,6 @@
 // The shelves that are built, each proved to show the meaning of a shelf.
+#![tactic(auto)]
+
 pub mod byte_grid;
 pub mod byte_grid_calls;
 pub mod byte_grid_making;

@@ -13,44 +13,44 @@ use Rattle.shelf_laws.proofs.Ramps.{ramp_allowed, ramp_kept, span_exact}
 use Rattle.shelf_laws.proofs.Singles.{made_fixed, refused_fixed}
 use Rattle.shelves.proofs.ramp_making.make_ramp.Goals as goal
 
-pub returns-then-is-err : goal.returns-then-is-err
-returns-then-is-err c =
+pub returns-then-is_err : goal.returns-then-is_err
+returns-then-is_err c =
     let g = gradient c.args.slopes in
     let d = extents c.args.domain in
     let name = c.args.name.now in
     let off = c.args.offset in
     let same = to_z-of_z w64 off c.ranges.offset in
-    let check = c.check-ramp.ensures ∙ ap (λ o. answer_of (ramp_fault name d g o)) same in
-    let r = refusal_of_lem (ramp_fault name d g off) c.check-ramp.result check (sym c.if-is-err.ensures.value) in
+    let check = c.check_ramp.ensures ∙ ap (λ o. answer_of (ramp_fault name d g o)) same in
+    let r = refusal_of_lem (ramp_fault name d g off) c.check_ramp.result check (sym c.if-is_err.ensures.value) in
     record {
       made = refused_fixed (ramp_fault name d g off) r.0 name c.args.domain (ramp_kind g off d) (ramp_cells g off) r.1;
       span = λ none. span_exact g off d (ramp_allowed name d g off none).axes_bounded;
     }
 
-pub ramp-span-requires : goal.ramp-span-requires
-ramp-span-requires c =
+pub ramp_span-requires : goal.ramp_span-requires
+ramp_span-requires c =
     let g = gradient c.args.slopes in
     let d = extents c.args.domain in
     let name = c.args.name.now in
     let off = c.args.offset in
     let same = to_z-of_z w64 off c.ranges.offset in
-    let check = c.check-ramp.ensures ∙ ap (λ o. answer_of (ramp_fault name d g o)) same in
-    let h = ramp_allowed name d g off (allowed_by (ramp_fault name d g off) c.check-ramp.result check (sym c.if-is-err.ensures.value)) in
+    let check = c.check_ramp.ensures ∙ ap (λ o. answer_of (ramp_fault name d g o)) same in
+    let h = ramp_allowed name d g off (allowed_by (ramp_fault name d g off) c.check_ramp.result check (sym c.if-is_err.ensures.value)) in
     record { bounded = h.axes_bounded; mild = h.mild; near = ap is_near same ∙ h.near }
 
-pub invariant-of-result-2 : goal.invariant-of-result-2
-invariant-of-result-2 c =
+pub invariant_of-result-2 : goal.invariant_of-result-2
+invariant_of-result-2 c =
     let g = gradient c.args.slopes in
     let d = extents c.args.domain in
     let name = c.args.name.now in
     let off = c.args.offset in
     let same = to_z-of_z w64 off c.ranges.offset in
-    let check = c.check-ramp.ensures ∙ ap (λ o. answer_of (ramp_fault name d g o)) same in
-    let h = ramp_allowed name d g off (allowed_by (ramp_fault name d g off) c.check-ramp.result check (sym c.if-is-err.ensures.value)) in
+    let check = c.check_ramp.ensures ∙ ap (λ o. answer_of (ramp_fault name d g o)) same in
+    let h = ramp_allowed name d g off (allowed_by (ramp_fault name d g off) c.check_ramp.result check (sym c.if-is_err.ensures.value)) in
     let number : Range → Kind = λ r. Number r in
-    let kind : number c.ramp-span.result ≡ ramp_kind g off d = ap number (c.ramp-span.ensures ∙ ap (λ o. ramp_span g o d) same) in
+    let kind : number c.ramp_span.result ≡ ramp_kind g off d = ap number (c.ramp_span.ensures ∙ ap (λ o. ramp_span g o d) same) in
     let k = ramp_kept name c.args.domain g off c.asked.result h (subst (λ x. Asked (is_name name) name c.args.domain x false c.asked.result) kind c.asked.ensures) in
-    (k.0, (ap (ramp_ok c.asked.result g) same ∙ k.1, tt))
+    record { described = k.0; sloped = ap (ramp_ok c.asked.result g) same ∙ k.1 }
 
 pub returns : goal.returns
 returns c =
@@ -59,12 +59,12 @@ returns c =
     let name = c.args.name.now in
     let off = c.args.offset in
     let same = to_z-of_z w64 off c.ranges.offset in
-    let check = c.check-ramp.ensures ∙ ap (λ o. answer_of (ramp_fault name d g o)) same in
+    let check = c.check_ramp.ensures ∙ ap (λ o. answer_of (ramp_fault name d g o)) same in
     let f = ramp_fault name d g off in
-    let none = allowed_by f c.check-ramp.result check (sym c.if-is-err.ensures.value) in
+    let none = allowed_by f c.check_ramp.result check (sym c.if-is_err.ensures.value) in
     let h = ramp_allowed name d g off none in
     let number : Range → Kind = λ r. Number r in
-    let kind : number c.ramp-span.result ≡ ramp_kind g off d = ap number (c.ramp-span.ensures ∙ ap (λ o. ramp_span g o d) same) in
+    let kind : number c.ramp_span.result ≡ ramp_kind g off d = ap number (c.ramp_span.ensures ∙ ap (λ o. ramp_span g o d) same) in
     let asked = subst (λ x. Asked (is_name name) name c.args.domain x false c.asked.result) kind c.asked.ensures in
     let made = made_fixed f name c.args.domain (ramp_kind g off d) (ramp_cells g off) c.asked.result none h.named asked in
     record {

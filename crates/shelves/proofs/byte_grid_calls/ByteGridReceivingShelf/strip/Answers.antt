@@ -9,4 +9,4 @@ returns c =
     let me = c.args.self.now in
     let err : ShelfFault → Result (Unit {0}) ShelfFault = λ f. Err f in
     let r = strip_fixed me.about (byte_cells me.bytes.now) c.args.coverage c.args.strip c.args.cells.now me.described in
-    record { answer = ap err c.fixed-fault.ensures ∙ r.0; after = r.1 }
+    record { answer = ap err c.fixed_fault.ensures ∙ r.0; after = r.1 }

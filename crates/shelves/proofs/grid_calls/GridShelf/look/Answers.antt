@@ -13,20 +13,20 @@ returns-then-not-contains c =
     let me = c.args.self.now in
     sym (look_outside me.about c.in-Some.about me.rows.cells.now c.args.coverage c.in-Some.is c.if-coverage-ne0.false (coordinates c.args.at) (sym c.if-not-contains.ensures))
 
-pub cell-number-i-requires : goal.cell-number-i-requires
-cell-number-i-requires c =
+pub cell_number-i-requires : goal.cell_number-i-requires
+cell_number-i-requires c =
     let me = c.args.self.now in
     let k = kept_from me.about c.in-Some.about me.rows.cells.now c.in-Some.is me.described me.long me.fit me.whole in
     record { inside = sym c.if-not-contains.ensures; few = few_cells (extents c.in-Some.about.domain) (describable_by c.in-Some.about k.described).cells_few }
 
-pub offset-bounds-self-i : goal.offset-bounds-self-i
-offset-bounds-self-i c =
+pub offset_bounds-self-i : goal.offset_bounds-self-i
+offset_bounds-self-i c =
     let me = c.args.self.now in
     let a = c.in-Some.about in
     let cs = me.rows.cells.now in
     let k = kept_from me.about a cs c.in-Some.is me.described me.long me.fit me.whole in
     let few = few_cells (extents a.domain) (describable_by a k.described).cells_few in
-    let below = c.cell-number-i.ensures.1 in
+    let below = c.cell_number-i.ensures.1 in
     search rules
 
 pub bounds-self-i : goal.bounds-self-i
@@ -35,7 +35,7 @@ bounds-self-i c =
     let a = c.in-Some.about in
     let cs = me.rows.cells.now in
     let k = kept_from me.about a cs c.in-Some.is me.described me.long me.fit me.whole in
-    omega (arith, k.long, c.cell-number-i.ensures.1)
+    omega (arith, k.long, c.cell_number-i.ensures.1)
 
 pub returns-then-v : goal.returns-then-v
 returns-then-v c =
@@ -43,8 +43,8 @@ returns-then-v c =
     let a = c.in-Some.about in
     let cs = me.rows.cells.now in
     let k = kept_from me.about a cs c.in-Some.is me.described me.long me.fit me.whole in
-    let i : c.cell-number-i.result ≡ number_at (extents a.domain) (coordinates c.args.at) = c.cell-number-i.ensures.0 in
-    let v = get_or cs c.cell-number-i.result (pos 0) in
+    let i : c.cell_number-i.result ≡ number_at (extents a.domain) (coordinates c.args.at) = c.cell_number-i.ensures.0 in
+    let v = get_or cs c.cell_number-i.result (pos 0) in
     let f : SFits w32 v = search rules in
     let ok : Option ℤ → Result (Option ℤ) ShelfFault = λ x. Ok x in
     sym (look_known me.about a cs c.args.coverage c.in-Some.is c.if-coverage-ne0.false (coordinates c.args.at) (sym c.if-not-contains.ensures)
@@ -56,8 +56,8 @@ returns-else-v c =
     let a = c.in-Some.about in
     let cs = me.rows.cells.now in
     let k = kept_from me.about a cs c.in-Some.is me.described me.long me.fit me.whole in
-    let i : c.cell-number-i.result ≡ number_at (extents a.domain) (coordinates c.args.at) = c.cell-number-i.ensures.0 in
-    let v = get_or cs c.cell-number-i.result (pos 0) in
+    let i : c.cell_number-i.result ≡ number_at (extents a.domain) (coordinates c.args.at) = c.cell_number-i.ensures.0 in
+    let v = get_or cs c.cell_number-i.result (pos 0) in
     let f : SFits w32 v = search rules in
     let ok : Option ℤ → Result (Option ℤ) ShelfFault = λ x. Ok x in
     let some : ℤ → Option ℤ = λ z. Some z in

@@ -12,21 +12,21 @@ use Rattle.shelf_laws.proofs.Ramps.{settled_value, sloped_from, value_small}
 use Rattle.shelf_laws.proofs.Singles.{described_by, look_reached, reached_in_lem, seen}
 use Rattle.shelves.proofs.ramp_calls.RampShelf.look.Goals as goal
 
-pub returns-in-err-about : goal.returns-in-err-about
-returns-in-err-about c =
+pub returns-in_err-about : goal.returns-in_err-about
+returns-in_err-about c =
     let me = c.args.self.now in
     let cell = ramp_cells (gradient me.slopes) me.offset in
     let p = coordinates c.args.at in
     let err : ShelfFault → Result (Option ℤ) ShelfFault = λ f. Err f in
-    let e = err_from_is_err_and c.from-residual.result c.from-residual.ensures.1 in
-    let r : reached me.about c.args.coverage p ≡ Err c.in-err-about.field-0.0 = sym c.reach.ensures ∙ c.in-err-about.was in
+    let e = err_from_is_err_and c.from_residual.result c.from_residual.ensures.1 in
+    let r : reached me.about c.args.coverage p ≡ Err c.in_err-about.field-0.0 = sym c.reach.ensures ∙ c.in_err-about.was in
     e.1 ∙ (ap err e.2 ∙ sym (look_reached me.about cell c.args.coverage p ∙ ap (λ x. seen cell x p) r))
 
-pub ramp-value-v-requires : goal.ramp-value-v-requires
-ramp-value-v-requires c =
+pub ramp_value-v-requires : goal.ramp_value-v-requires
+ramp_value-v-requires c =
     let me = c.args.self.now in
-    let a = c.in-ok-about.about in
-    let r = reached_in_lem me.about c.args.coverage (coordinates c.args.at) a (sym c.reach.ensures ∙ c.in-ok-about.was) in
+    let a = c.in_ok-about.about in
+    let r = reached_in_lem me.about c.args.coverage (coordinates c.args.at) a (sym c.reach.ensures ∙ c.in_ok-about.was) in
     let s = sloped_from me.about a (gradient me.slopes) me.offset r.0 me.sloped in
     let f : SFits w64 me.offset = search rules in
     record {
@@ -36,19 +36,19 @@ ramp-value-v-requires c =
       inside = r.1;
     }
 
-pub overflow-cast-result : goal.overflow-cast-result
-overflow-cast-result c =
+pub overflow_cast-result : goal.overflow_cast-result
+overflow_cast-result c =
     let me = c.args.self.now in
     let g = gradient me.slopes in
-    let a = c.in-ok-about.about in
+    let a = c.in_ok-about.about in
     let d = extents a.domain in
     let p = coordinates c.args.at in
-    let r = reached_in_lem me.about c.args.coverage p a (sym c.reach.ensures ∙ c.in-ok-about.was) in
+    let r = reached_in_lem me.about c.args.coverage p a (sym c.reach.ensures ∙ c.in_ok-about.was) in
     let s = sloped_from me.about a g me.offset r.0 me.sloped in
     let b = (describable_by a (described_by a (ap fixed_ok (sym r.0) ∙ me.described))).axes_bounded in
     let f : SFits w64 me.offset = search rules in
-    let v : to_z w64 (of_z w64 c.ramp-value-v.result) ≡ ramp_value g me.offset d p =
-    to_z-of_z w64 c.ramp-value-v.result (record { sfits = c.ramp-value-v.type_inv }) ∙ (c.ramp-value-v.ensures ∙ ap (λ o. ramp_value g o d p) (to_z-of_z w64 me.offset f)) in
+    let v : to_z w64 (of_z w64 c.ramp_value-v.result) ≡ ramp_value g me.offset d p =
+    to_z-of_z w64 c.ramp_value-v.result (record { sfits = c.ramp_value-v.type_inv }) ∙ (c.ramp_value-v.ensures ∙ ap (λ o. ramp_value g o d p) (to_z-of_z w64 me.offset f)) in
     subst (SFits w32) (sym v) (fits_32 2000000000 (ramp_value g me.offset d p) (omega arith) (value_small g me.offset d p b s.mild s.near (inside_from d p r.1)))
 
 pub returns : goal.returns
@@ -56,17 +56,17 @@ returns c =
     let me = c.args.self.now in
     let g = gradient me.slopes in
     let cell = ramp_cells g me.offset in
-    let a = c.in-ok-about.about in
+    let a = c.in_ok-about.about in
     let d = extents a.domain in
     let p = coordinates c.args.at in
     let ok : ℤ → Result (Option ℤ) ShelfFault = λ x. Ok (Some x) in
-    let is : reached me.about c.args.coverage p ≡ Ok a = sym c.reach.ensures ∙ c.in-ok-about.was in
+    let is : reached me.about c.args.coverage p ≡ Ok a = sym c.reach.ensures ∙ c.in_ok-about.was in
     let r = reached_in_lem me.about c.args.coverage p a is in
     let s = sloped_from me.about a g me.offset r.0 me.sloped in
     let b = (describable_by a (described_by a (ap fixed_ok (sym r.0) ∙ me.described))).axes_bounded in
     let f : SFits w64 me.offset = search rules in
-    let v : to_z w64 (of_z w64 c.ramp-value-v.result) ≡ ramp_value g me.offset d p =
-    to_z-of_z w64 c.ramp-value-v.result (record { sfits = c.ramp-value-v.type_inv }) ∙ (c.ramp-value-v.ensures ∙ ap (λ o. ramp_value g o d p) (to_z-of_z w64 me.offset f)) in
+    let v : to_z w64 (of_z w64 c.ramp_value-v.result) ≡ ramp_value g me.offset d p =
+    to_z-of_z w64 c.ramp_value-v.result (record { sfits = c.ramp_value-v.type_inv }) ∙ (c.ramp_value-v.ensures ∙ ap (λ o. ramp_value g o d p) (to_z-of_z w64 me.offset f)) in
     let narrow = fits_32 2000000000 (ramp_value g me.offset d p) (omega arith) (value_small g me.offset d p b s.mild s.near (inside_from d p r.1)) in
     ap ok (ap (λ x. to_z w32 (of_z w32 x)) v ∙ to_z-of_z w32 (ramp_value g me.offset d p) narrow)
     ∙ sym (look_reached me.about cell c.args.coverage p ∙ (ap (λ x. seen cell x p) is ∙ ap ok (settled_value g me.offset d p)))

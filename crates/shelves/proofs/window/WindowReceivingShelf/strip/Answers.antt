@@ -17,11 +17,11 @@ returns-then-coverage-ne0 g c =
     let r = strip_absent (window_meaning m me.coverage me.cut) c.args.coverage c.args.strip c.args.cells.now (past m me.coverage me.cut c.args.coverage c.if-coverage-ne0.true) in
     record { answer = r.0; after = r.1 }
 
-pub returns-in-default : goal.returns-in-default
-returns-in-default g c =
+pub returns-in_default : goal.returns-in_default
+returns-in_default g c =
     let me = c.args.self.now in
     let m = g.S.Shelf.meaning me.below.now in
-    let r = strip_absent (window_meaning m me.coverage me.cut) c.args.coverage c.args.strip c.args.cells.now (hidden_at m me.coverage me.cut c.args.coverage c.in-default.field-0 c.in-default.ensures) in
+    let r = strip_absent (window_meaning m me.coverage me.cut) c.args.coverage c.args.strip c.args.cells.now (hidden_at m me.coverage me.cut c.args.coverage c.in_default.field-0 c.in_default.ensures) in
     record { answer = r.0; after = r.1 }
 
 pub returns-then-not-view : goal.returns-then-not-view
@@ -42,13 +42,13 @@ returns-then-strip-strips g c =
     let r = view_no_strip m me.coverage me.cut v c.in-Ok.ensures law c.args.coverage c.if-coverage-ne0.false c.args.strip c.args.cells.now (not-false _ c.if-not-view.false) h in
     record { answer = r.0; after = r.1 }
 
-pub strip-first-requires : goal.strip-first-requires
-strip-first-requires g c =
+pub strip_first-requires : goal.strip_first-requires
+strip_first-requires g c =
     let me = c.args.self.now in
     record { sized = view_sized (g.S.Shelf.meaning me.below.now) me.coverage me.cut c.in-Ok.view c.in-Ok.ensures (g.S.Shelf.lawful me.below.now) }
 
-pub strip-number-below-requires : goal.strip-number-below-requires
-strip-number-below-requires g c =
+pub strip_number-below-requires : goal.strip_number-below-requires
+strip_number-below-requires g c =
     let me = c.args.self.now in
     let m = g.S.Shelf.meaning me.below.now in
     let v = c.in-Ok.view in
@@ -56,7 +56,7 @@ strip-number-below-requires g c =
     let n : c.strips.result ≡ strips (extents v.about.domain) = c.strips.ensures ∙ strips_counted v.about (view_describable m me.coverage me.cut v c.in-Ok.ensures law) in
     let h : c.args.strip < strips (extents v.about.domain) = omega (arith, n, c.if-strip-strips.false) in
     record {
-      inside = subst (λ (p : Coordinates). Inside (extents v.whole) p) (sym c.strip-first.ensures) (view_first m me.coverage me.cut v c.in-Ok.ensures law c.args.strip h);
+      inside = subst (λ (p : Coordinates). Inside (extents v.whole) p) (sym c.strip_first.ensures) (view_first m me.coverage me.cut v c.in-Ok.ensures law c.args.strip h);
       few = whole_strips m me.coverage me.cut v c.in-Ok.ensures law;
     }
 
@@ -68,8 +68,8 @@ returns-in-Ok-strip g c =
     let law = g.S.Shelf.lawful me.below.now in
     let n : c.strips.result ≡ strips (extents v.about.domain) = c.strips.ensures ∙ strips_counted v.about (view_describable m me.coverage me.cut v c.in-Ok.ensures law) in
     let h : c.args.strip < strips (extents v.about.domain) = omega (arith, n, c.if-strip-strips.false) in
-    let s = c.strip-number-below.ensures.0 ∙ ap (strip_at (extents v.whole)) c.strip-first.ensures in
-    let t = view_through m me.coverage me.cut v c.in-Ok.ensures law c.args.coverage c.if-coverage-ne0.false c.args.strip c.strip-number-below.result c.args.cells.now _ h s c.strip.ensures.after in
+    let s = c.strip_number-below.ensures.0 ∙ ap (strip_at (extents v.whole)) c.strip_first.ensures in
+    let t = view_through m me.coverage me.cut v c.in-Ok.ensures law c.args.coverage c.if-coverage-ne0.false c.args.strip c.strip_number-below.result c.args.cells.now _ h s c.strip.ensures.after in
     record { answer = ap (λ r. told r c.args.coverage c.args.strip) c.in-Ok-strip.ensures.answer ∙ t.0; after = t.1 }
 
 pub returns-in-Err : goal.returns-in-Err
@@ -80,7 +80,7 @@ returns-in-Err g c =
     let law = g.S.Shelf.lawful me.below.now in
     let n : c.strips.result ≡ strips (extents v.about.domain) = c.strips.ensures ∙ strips_counted v.about (view_describable m me.coverage me.cut v c.in-Ok.ensures law) in
     let h : c.args.strip < strips (extents v.about.domain) = omega (arith, n, c.if-strip-strips.false) in
-    let s = c.strip-number-below.ensures.0 ∙ ap (strip_at (extents v.whole)) c.strip-first.ensures in
-    let t = view_through m me.coverage me.cut v c.in-Ok.ensures law c.args.coverage c.if-coverage-ne0.false c.args.strip c.strip-number-below.result c.args.cells.now _ h s c.strip.ensures.after in
+    let s = c.strip_number-below.ensures.0 ∙ ap (strip_at (extents v.whole)) c.strip_first.ensures in
+    let t = view_through m me.coverage me.cut v c.in-Ok.ensures law c.args.coverage c.if-coverage-ne0.false c.args.strip c.strip_number-below.result c.args.cells.now _ h s c.strip.ensures.after in
     let err : ShelfFault → Result (Unit {0}) ShelfFault = λ f. Err f in
     record { answer = ap err c.renumbered.ensures ∙ (ap (λ r. told r c.args.coverage c.args.strip) c.in-Err.ensures.answer ∙ t.0); after = t.1 }
