@@ -1,5 +1,7 @@
 //! The check's rules: what each construct of a query is, from what its operands are. A rule answers the
 //! domain, kind and promise of the construct, or the first fault by number, at the construct's place.
+#![tactic(auto)]
+
 pub mod domains;
 pub mod fault;
 pub mod fits;

@@ -1,8 +1,8 @@
 -- Where a line stops, byte after byte; parts of a line.
-use Rattle.std.proofs.Common.{◌≡◌, ℕ, suc, ◌+◌, ◌-◌, ◌<◌, ◌≤◌, Bool, true, false, cond, eqb, List, [], ◌∷◌, ◌++◌, length, get_or, take, drop, Some, None, Option, sym, refl, ap, ◌∙◌, add-one, arith, length-drop}
+use Rattle.std.proofs.Common.{◌≡◌, ℕ, suc, ◌+◌, ◌-◌, ◌<◌, ◌≤◌, Bool, false, cond, List, [], ◌∷◌, ◌++◌, length, get_or, take, drop, Some, None, sym, refl, ap, ◌∙◌, arith, length-drop}
 use Rattle.std.specs.List.{between}
 use Rattle.std.proofs.lemmas.List.{drop_more, drop-drop, drop_all, take-append-drop, take_at}
-use Rattle.lines.specs.Pieces.{Piece, word, digits, more, number, others, name, text, closed, Next, stuck, onto, after, complete, follow, stop}
+use Rattle.lines.specs.Pieces.{Piece, stuck, onto, after, complete, follow, stop}
 
 pub at_byte : (p : ℕ) (s : List Piece) (b : ℕ) (bs : List ℕ) → stop p s (b ∷ bs) ≡ follow (λ s'. stop (suc p) s' bs) p (after s b)
 unfolding stop

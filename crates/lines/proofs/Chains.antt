@@ -1,11 +1,10 @@
 -- A line put together from the parts that were read.
-use Rattle.std.proofs.Common.{◌≡◌, ℕ, suc, ◌+◌, ◌-◌, ◌<◌, ◌≤◌, Bool, true, false, cond, ◌&&◌, List, [], ◌∷◌, ◌++◌, length, take, drop, sym, refl, ap, ◌∙◌, append_assoc, one-add, arith, length-drop}
+use Rattle.std.proofs.Common.{◌≡◌, ℕ, suc, ◌+◌, ◌-◌, ◌≤◌, Bool, true, cond, List, [], ◌∷◌, ◌++◌, length, take, drop, sym, refl, ap, ◌∙◌, append_assoc, one-add, arith}
 use Rattle.std.specs.List.{between, prefix_len}
 use Rattle.std.proofs.lemmas.List.{append_cancel_right}
 use Rattle.coverage.proofs.Bools.{by_test, and_both}
 use Rattle.lines.specs.Pieces.{Piece, word, name, is_name_byte, is_grid_name, Reads}
 use Rattle.lines.proofs.Bytes.{part_then}
-use Rattle.lines.proofs.Numbers.{part_join}
 use Rattle.lines.proofs.Runs.{name_run}
 
 pub a_word : {w r : List ℕ} (line : List ℕ) (i j : ℕ) → Reads (word w ∷ []) line i j × (between i j line ≡ w) → drop j line ≡ r → drop i line ≡ w ++ r

@@ -1,9 +1,9 @@
 -- The text of a query goes to the closing bracket that ends the line.
-use Rattle.std.proofs.Common.{◌≡◌, ℕ, suc, ◌+◌, ◌-◌, ◌<◌, ◌≤◌, Bool, true, false, cond, eqb, List, [], ◌∷◌, ◌++◌, length, get_or, drop, Some, None, Option, sym, refl, ap, ◌∙◌, subst, arith, length-drop, eq-eqb, ne_eqb}
+use Rattle.std.proofs.Common.{◌≡◌, ℕ, suc, ◌+◌, ◌-◌, ◌<◌, ◌≤◌, Bool, true, false, cond, eqb, List, [], ◌∷◌, ◌++◌, length, get_or, drop, Some, None, Option, refl, ap, ◌∙◌, arith, length-drop, ne_eqb}
 use Rattle.std.specs.List.{between}
 use Rattle.std.proofs.lemmas.List.{drop_more, drop_all}
 use Rattle.coverage.proofs.Bools.{by_test}
-use Rattle.lines.specs.Pieces.{Piece, text, closed, Next, onto, after, stop}
+use Rattle.lines.specs.Pieces.{Piece, text, closed, onto, after, stop}
 use Rattle.lines.proofs.Bytes.{goes, at_end_holds, part_then}
 
 -- whether bytes end with a closing bracket, c telling it of the byte before them

@@ -1,8 +1,8 @@
 -- Reading fixed bytes, and runs of bytes of one sort.
-use Rattle.std.proofs.Common.{◌≡◌, ℕ, suc, ◌+◌, ◌-◌, ◌<◌, ◌≤◌, Bool, true, false, cond, eqb, List, [], ◌∷◌, ◌++◌, length, get_or, take, drop, Some, None, sym, refl, ap, ◌∙◌, subst, append_assoc, arith, eq-eqb, ne_eqb}
+use Rattle.std.proofs.Common.{◌≡◌, ℕ, ◌+◌, ◌<◌, ◌≤◌, Bool, true, false, cond, eqb, List, [], ◌∷◌, ◌++◌, length, get_or, take, drop, Some, None, sym, refl, ap, ◌∙◌, append_assoc, arith, eq-eqb, ne_eqb}
 use Rattle.std.specs.List.{between}
 use Rattle.std.proofs.lemmas.List.{drop_more, drop_all, take_more, take_all}
-use Rattle.lines.specs.Pieces.{Piece, word, Next, stuck, onto, after, complete, stop, Reads, Stops}
+use Rattle.lines.specs.Pieces.{Piece, word, stuck, onto, after, complete, stop, Reads, Stops}
 use Rattle.lines.proofs.Bytes.{alike, at_end_holds, goes_at, halts_at, ends_at, part_is, part_then}
 
 -- i bytes of a word were read, from at to here

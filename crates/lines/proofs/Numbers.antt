@@ -1,9 +1,9 @@
 -- Reading a number, and numbers with a blank between them.
-use Rattle.std.proofs.Common.{◌≡◌, ℕ, suc, ◌+◌, ◌-◌, ◌<◌, ◌≤◌, Bool, true, false, cond, ◌&&◌, eqb, List, [], ◌∷◌, ◌++◌, length, get_or, take, drop, Some, None, Ok, Err, Result, sym, refl, ap, ◌∙◌, subst, append_assoc, arith, eq-eqb, ne_eqb}
+use Rattle.std.proofs.Common.{◌≡◌, ℕ, suc, ◌+◌, ◌-◌, ◌<◌, ◌≤◌, Bool, true, false, cond, ◌&&◌, eqb, List, [], ◌∷◌, ◌++◌, length, get_or, take, drop, Ok, Err, Result, sym, refl, ap, ◌∙◌, append_assoc, arith, ne_eqb}
 use Rattle.std.specs.List.{between}
-use Rattle.std.proofs.lemmas.List.{drop_more, drop_all, append_cancel_right}
+use Rattle.std.proofs.lemmas.List.{drop_more, append_cancel_right}
 use Rattle.lines.specs.Numerals.{is_digit, is_count, is_number, words_of, all_numbers}
-use Rattle.lines.specs.Pieces.{Piece, digits, more, number, others, Next, stuck, onto, after, complete, stop, Reads, Stops, Read}
+use Rattle.lines.specs.Pieces.{Piece, digits, more, number, others, stuck, onto, after, stop, Reads, Stops, Read}
 use Rattle.lines.proofs.Bytes.{alike, at_end_holds, goes_at, part_then, inside}
 use Rattle.lines.proofs.Words.{count_number, minus_number, number_word, words_append, numbers_append}
 

@@ -1,7 +1,7 @@
 -- Ranges by the numerals of their ends: what is told keeps the order of what is written.
-use Rattle.std.proofs.Common.{◌≡◌, ℕ, ◌<◌, ◌≤◌, min, Bool, true, false, cond, not, ◌&&◌, leb, ℤ, pos, negsuc, sym, refl, ap, ◌∙◌, arith, w64, of_z, le-leb, leb-false, leb-true}
+use Rattle.std.proofs.Common.{◌≡◌, ℕ, min, Bool, true, false, cond, not, ◌&&◌, leb, ℤ, pos, negsuc, sym, refl, ap, ◌∙◌, arith, w64, of_z, le-leb, leb-false, leb-true}
 use lib.Signed.{le_z}
-use borrow.Author.Tests.{clash, lt-leb}
+use borrow.Author.Tests.{clash}
 use Rattle.std.proofs.lemmas.Int.{ints}
 use Rattle.coverage.specs.Axes.{same_z}
 use Rattle.coverage.specs.Limits.{ordered}

@@ -1,12 +1,11 @@
 -- Runs of digits and of the bytes of a name.
-use Rattle.std.proofs.Common.{◌≡◌, ℕ, suc, ◌+◌, ◌-◌, ◌<◌, ◌≤◌, Bool, true, false, cond, ◌&&◌, eqb, List, [], ◌∷◌, ◌++◌, length, get_or, take, drop, Some, None, sym, refl, ap, ◌∙◌, subst, one-add, arith, length-drop}
-use borrow.Author.Tests.{clash}
+use Rattle.std.proofs.Common.{◌≡◌, ℕ, suc, ◌+◌, ◌-◌, ◌<◌, ◌≤◌, Bool, true, false, cond, List, [], ◌∷◌, length, take, drop, Some, sym, refl, ap, ◌∙◌, subst, one-add, arith, length-drop}
 use Rattle.std.specs.List.{between, prefix_len}
 use Rattle.std.proofs.lemmas.List.{drop-drop}
 use Rattle.std.proofs.lemmas.List.Sums.{prefix_len-le-length}
 use Rattle.coverage.proofs.Bools.{by_test, and_both}
 use Rattle.lines.specs.Numerals.{is_digit, all_digits, is_count}
-use Rattle.lines.specs.Pieces.{Piece, digits, more, name, is_name_byte, Next, stuck, onto, after, complete, stop, Reads, Stops}
+use Rattle.lines.specs.Pieces.{Piece, digits, more, name, is_name_byte, stuck, onto, after, complete, stop, Reads, Stops}
 use Rattle.lines.proofs.Bytes.{alike, goes, halts, at_end_holds, no_cons, same_first}
 
 -- a piece that takes bytes of one sort as long as they come, and then gives way

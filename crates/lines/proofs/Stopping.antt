@@ -1,9 +1,9 @@
 -- Over all forms: a line is accepted just where it is one, and else stops where no form goes on.
-use Rattle.std.proofs.Common.{◌≡◌, ℕ, ◌+◌, ◌-◌, ◌<◌, ◌≤◌, max, Bool, true, false, ◌&&◌, ltb, ◌⊎◌, List, [], ◌∷◌, ◌++◌, length, take, Some, None, Ok, Err, Option, Result, sym, refl, ap, ◌∙◌, subst, inl, inr, arith, ltb-false, ltb-true}
+use Rattle.std.proofs.Common.{◌≡◌, ℕ, ◌+◌, ◌-◌, ◌<◌, ◌≤◌, max, Bool, true, false, ◌&&◌, ltb, ◌⊎◌, List, [], ◌∷◌, ◌++◌, length, take, Some, None, Ok, Err, Option, Result, sym, refl, ◌∙◌, subst, inl, inr, arith, ltb-false, ltb-true}
 use Rattle.coverage.proofs.Bools.{by_test, and_left, and_right}
 use Rattle.lines.specs.Pieces.{Piece, stop}
 use Rattle.lines.specs.Forms.{forms, grid_form, farther, stop_over, placed}
-use Rattle.lines.specs.Grammar.{Made, OneOf, IsForm, Begins, StopsAt, Parsed}
+use Rattle.lines.specs.Grammar.{Made, OneOf, Begins, StopsAt, Parsed}
 use Rattle.lines.proofs.Viable.{fills, sound, reached, fronted, some_none, none_some, same_some}
 use Rattle.lines.proofs.Whole.{clear, accepts}
 

@@ -1,13 +1,12 @@
 -- The byte after byte reading and the grammar agree.
-use Rattle.std.proofs.Common.{◌≡◌, ℕ, zero, suc, ◌+◌, ◌-◌, ◌<◌, ◌≤◌, Bool, true, false, cond, not, ◌&&◌, eqb, ◌⊎◌, List, [], ◌∷◌, ◌++◌, length, take, Some, None, Option, sym, refl, ap, ◌∙◌, subst, inl, inr, arith, eq-eqb, eqb-true}
+use Rattle.std.proofs.Common.{◌≡◌, ℕ, zero, suc, ◌+◌, ◌-◌, ◌<◌, ◌≤◌, Bool, true, cond, eqb, List, [], ◌∷◌, ◌++◌, length, take, Some, None, Option, sym, refl, ap, ◌∙◌, subst, arith, eqb-true}
 use borrow.Author.Tests.{clash}
-use Rattle.std.proofs.lemmas.Bool.{cond_both, not-true}
-use Rattle.coverage.proofs.Bools.{by_test, and_left, and_right, and_both}
+use Rattle.std.proofs.lemmas.Bool.{cond_both}
+use Rattle.coverage.proofs.Bools.{by_test}
 use Rattle.lines.specs.Numerals.{is_digit}
 use Rattle.lines.specs.Pieces.{Piece, word, digits, more, number, others, name, text, closed, is_name_byte, Next, stuck, onto, after, complete, follow, stop}
 use Rattle.lines.specs.Grammar.{Made, done, word_byte, word_done, digit_first, digit_more, digits_done, number_minus, number_plain, others_blank, others_done, name_byte, name_done, text_byte, text_close, closed_done, closed_text}
 use Rattle.lines.proofs.Bytes.{at_byte, at_end_holds}
-use Rattle.lines.proofs.Words.{digit_apart}
 
 -- ---- what the reading goes on with can be put behind the byte
 

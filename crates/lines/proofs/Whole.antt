@@ -1,11 +1,11 @@
 -- Bytes that are made of pieces are accepted, where each piece shows by its own bytes where it ends.
-use Rattle.std.proofs.Common.{◌≡◌, ℕ, suc, Bool, true, false, cond, not, ◌&&◌, eqb, List, [], ◌∷◌, Some, None, Option, sym, refl, ap, ◌∙◌, subst, arith, eq-eqb, eqb-true}
+use Rattle.std.proofs.Common.{◌≡◌, ℕ, suc, Bool, true, false, cond, not, ◌&&◌, eqb, List, [], ◌∷◌, Some, None, sym, refl, ap, ◌∙◌, subst, arith, eq-eqb}
 use borrow.Author.Tests.{clash}
-use Rattle.std.proofs.lemmas.Bool.{cond_both, not-true}
+use Rattle.std.proofs.lemmas.Bool.{not-true}
 use Rattle.coverage.proofs.Bools.{by_test, and_left, and_right, and_both}
 use Rattle.lines.specs.Numerals.{is_digit}
 use Rattle.lines.specs.Pieces.{Piece, word, digits, more, number, others, name, text, closed, is_name_byte, Next, stuck, onto, after, complete, follow, stop}
-use Rattle.lines.specs.Grammar.{Made, done, word_byte, word_done, digit_first, digit_more, digits_done, number_minus, number_plain, others_blank, others_done, name_byte, name_done, text_byte, text_close, closed_done, closed_text}
+use Rattle.lines.specs.Grammar.{Made, word_byte, word_done, digit_first, digit_more, digits_done, number_minus, number_plain, others_blank, others_done, name_byte, name_done, text_byte, text_close, closed_done, closed_text}
 use Rattle.lines.proofs.Bytes.{at_byte, at_end_holds}
 use Rattle.lines.proofs.Words.{digit_apart}
 

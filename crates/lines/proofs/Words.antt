@@ -1,5 +1,5 @@
 -- The words of a text, and numerals among them.
-use Rattle.std.proofs.Common.{◌≡◌, ℕ, ◌≤◌, Bool, true, false, cond, ◌&&◌, eqb, leb, List, [], ◌∷◌, ◌++◌, sym, refl, ap, ◌∙◌, subst, append_assoc, arith, ne_eqb, eqb-true, leb-true}
+use Rattle.std.proofs.Common.{◌≡◌, ℕ, ◌≤◌, Bool, true, false, cond, eqb, leb, List, [], ◌∷◌, ◌++◌, sym, refl, ap, ◌∙◌, append_assoc, arith, ne_eqb, eqb-true, leb-true}
 use borrow.Author.Tests.{clash}
 use Rattle.coverage.proofs.Bools.{by_test, and_left, and_right, and_both}
 use Rattle.lines.specs.Says.{AreCells}

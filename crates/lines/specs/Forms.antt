@@ -1,5 +1,5 @@
 -- The forms that a line may have, as rows of pieces.
-use Rattle.std.specs.Prelude.{◌≡◌, ℕ, max, Bool, true, false, cond, List, [], ◌∷◌, ◌++◌, Some, None, Ok, Err, codes, Option, Result}
+use Rattle.std.specs.Prelude.{ℕ, max, Bool, true, false, cond, List, [], ◌∷◌, ◌++◌, Some, None, Ok, Err, codes, Option, Result}
 use Rattle.lines.specs.Pieces.{Piece, word, digits, number, others, name, text, stop}
 
 -- two numbers after an opening word: LO HI)

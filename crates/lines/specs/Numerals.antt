@@ -1,6 +1,5 @@
 -- Numerals of any length: what they are, what they are worth, and how far that can be told.
-use Rattle.std.specs.Prelude.{◌≡◌, ℕ, ◌+◌, ◌-◌, ◌*◌, ◌<◌, ◌≤◌, min, Bool, true, false, cond, not, ◌&&◌, List, [], ◌∷◌, ◌++◌, length, ℤ, pos, negsuc, neg_ℤ, fold, ◌==◌, int_le, nat_le, nat_lt, slice_index}
-use Rattle.std.specs.Int.Signed.{lt_z}
+use Rattle.std.specs.Prelude.{ℕ, ◌+◌, ◌-◌, ◌*◌, min, Bool, true, false, cond, not, ◌&&◌, List, [], ◌∷◌, ◌++◌, length, ℤ, pos, negsuc, neg_ℤ, fold, ◌==◌, int_le, nat_le, nat_lt, slice_index}
 use Rattle.coverage.specs.Axes.{same_z}
 use Rattle.coverage.specs.declared.range.Range.{Range}
 

@@ -1,7 +1,7 @@
 -- The pieces that forms are made of, and where a line stops being made of them.
-use Rattle.std.specs.Prelude.{◌≡◌, ℕ, suc, ◌≤◌, max, Bool, true, false, cond, not, ◌&&◌, List, [], ◌∷◌, ◌++◌, length, drop, Some, None, Ok, Err, Option, Result, ◌==◌}
+use Rattle.std.specs.Prelude.{◌≡◌, ℕ, suc, ◌≤◌, Bool, true, false, cond, not, ◌&&◌, List, [], ◌∷◌, ◌++◌, length, drop, Some, None, Ok, Err, Option, Result, ◌==◌}
 use Rattle.std.specs.List.{between}
-use Rattle.lines.specs.Numerals.{is_digit, all_digits, is_count, is_number}
+use Rattle.lines.specs.Numerals.{is_digit}
 
 -- neither a blank nor a bracket
 abbrev pub is_name_byte : ℕ → Bool

@@ -1,5 +1,5 @@
 -- What command a line says: how its bytes are made, and what its numerals are told as.
-use Rattle.std.specs.Prelude.{◌≡◌, ℕ, Bool, true, false, ◌&&◌, List, [], ◌∷◌, ◌++◌, ℤ, Some, None, Ok, Err, codes, Option, Result}
+use Rattle.std.specs.Prelude.{◌≡◌, ℕ, true, List, [], ◌∷◌, ◌++◌, ℤ, Some, None, Ok, Err, codes, Option, Result}
 use Rattle.coverage.specs.declared.range.Range.{Range}
 use Rattle.coverage.specs.declared.domain.Domain.{Domain}
 use Rattle.coverage.specs.declared.domain.Point.{Point}

@@ -1,4 +1,6 @@
 // The lines that are read: which bytes are a form, and what command they say. What a line says is in specs/.
+#![tactic(auto)]
+
 pub mod cells;
 pub mod command;
 pub mod forms;

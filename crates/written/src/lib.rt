@@ -1,4 +1,6 @@
 // The lines that are printed.
+#![tactic(auto)]
+
 ghost use Rattle.written.specs.Format.{cell_line, grid_line, layer_word, not_aform, refusal_line, returned_words, strip_line};
 ghost use Rattle.std.specs.Prelude.{◌≡◌, IfOk, string_bytes};
 

@@ -21,12 +21,12 @@ returns-then-not-reach c =
     failed (own_axes is) 6 c.args.place (unless (few (iterator_extents is)) 10 c.args.place) (iterator_extents is) (sym h.own_axes_holds ∙ not-true _ c.if-not-reach.true)
     ∙ passed (new_words is g) 5 c.args.place (first (unless (own_axes is) 6 c.args.place) (unless (few (iterator_extents is)) 10 c.args.place)) (iterator_extents is) (sym f ∙ c.if-not-fresh.false)
 
-pub returns-then-cells-ge-TOO-MANY : goal.returns-then-cells-ge-TOO-MANY
+pub returns-then-cells-ge-TOO_MANY : goal.returns-then-cells-ge-TOO_MANY
 unfolding iterators_fault
-returns-then-cells-ge-TOO-MANY c =
+returns-then-cells-ge-TOO_MANY c =
     λ g is h f.
     failed_last (few (iterator_extents is)) 10 c.args.place (iterator_extents is)
-    (sym (ap few h.through) ∙ many (extents c.args.reach.domain) c.cells.result c.cells.ensures c.if-cells-ge-TOO-MANY.true)
+    (sym (ap few h.through) ∙ many (extents c.args.reach.domain) c.cells.result c.cells.ensures c.if-cells-ge-TOO_MANY.true)
     ∙ (passed (own_axes is) 6 c.args.place (unless (few (iterator_extents is)) 10 c.args.place) (iterator_extents is) (sym h.own_axes_holds ∙ not-false _ c.if-not-reach.false)
     ∙ passed (new_words is g) 5 c.args.place (first (unless (own_axes is) 6 c.args.place) (unless (few (iterator_extents is)) 10 c.args.place)) (iterator_extents is) (sym f ∙ c.if-not-fresh.false))
 
@@ -37,6 +37,6 @@ returns c =
     λ g is h f.
     ap ok h.through
     ∙ (passed_last (few (iterator_extents is)) 10 c.args.place (iterator_extents is)
-    (sym (ap few h.through) ∙ not_many (extents c.args.reach.domain) c.cells.result c.cells.ensures c.if-cells-ge-TOO-MANY.false)
+    (sym (ap few h.through) ∙ not_many (extents c.args.reach.domain) c.cells.result c.cells.ensures c.if-cells-ge-TOO_MANY.false)
     ∙ (passed (own_axes is) 6 c.args.place (unless (few (iterator_extents is)) 10 c.args.place) (iterator_extents is) (sym h.own_axes_holds ∙ not-false _ c.if-not-reach.false)
     ∙ passed (new_words is g) 5 c.args.place (first (unless (own_axes is) 6 c.args.place) (unless (few (iterator_extents is)) 10 c.args.place)) (iterator_extents is) (sym f ∙ c.if-not-fresh.false)))

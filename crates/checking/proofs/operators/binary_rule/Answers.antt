@@ -12,19 +12,19 @@ use Rattle.checking.specs.Told.{part_of, refusal_of, refused_by}
 use Rattle.checking.proofs.Turns.{grouped, limited_as, refused_of, rest_of}
 use Rattle.checking.proofs.operators.binary_rule.Goals as goal
 
-pub binary-kind-requires : goal.binary-kind-requires
-binary-kind-requires c =
+pub binary_kind-requires : goal.binary_kind-requires
+binary_kind-requires c =
     let o = c.args.o in
     let s = c.args.left in
     let t = c.args.right in
     let fit = unless (operands_fit o s.kind t.kind && domains_fit (extents s.domain) (extents t.domain)) 7 c.args.place in
-    let h : operands_fault o (part_of s) (part_of t) c.args.place ≡ None = sym c.operands-pass.ensures ∙ ap refused_by c.in-ok-operands-pass.was in
+    let h : operands_fault o (part_of s) (part_of t) c.args.place ≡ None = sym c.operands_pass.ensures ∙ ap refused_by c.in_ok-operands_pass.was in
     let b = is_division o && holds_zero (span_of t.kind) in
     record { left = c.requires.left.span; right = c.requires.right.span; apart = not-true b (passes (not b) 8 c.args.place (two fit (divisor_fault o t.kind c.args.place) h)) }
 
-pub returns-in-err-operands-pass : goal.returns-in-err-operands-pass
+pub returns-in_err-operands_pass : goal.returns-in_err-operands_pass
 unfolding binary_fault
-returns-in-err-operands-pass c =
+returns-in_err-operands_pass c =
     let o = c.args.o in
     let s = c.args.left in
     let t = c.args.right in
@@ -33,8 +33,8 @@ returns-in-err-operands-pass c =
     let whole = announce (joint_extents (extents s.domain) (extents t.domain)) k n in
     let fit = unless (operands_fit o s.kind t.kind && domains_fit (extents s.domain) (extents t.domain)) 7 c.args.place in
     let last = limits_fault k n c.args.place in
-    let p = err_from_is_err_and c.from-residual.result c.from-residual.ensures.1 in
-    rw (p.1, p.2) (refused_of (refusal_of c.in-err-operands-pass.field-0.0) (operands_fault o (part_of s) (part_of t) c.args.place) last whole c.in-err-operands-pass.ensures
+    let p = err_from_is_err_and c.from_residual.result c.from_residual.ensures.1 in
+    rw (p.1, p.2) (refused_of (refusal_of c.in_err-operands_pass.field-0.0) (operands_fault o (part_of s) (part_of t) c.args.place) last whole c.in_err-operands_pass.ensures
     ∙ grouped fit (divisor_fault o t.kind c.args.place) last whole)
 
 pub returns : goal.returns
@@ -49,8 +49,8 @@ returns c =
     let fit = unless (operands_fit o s.kind t.kind && domains_fit (extents s.domain) (extents t.domain)) 7 c.args.place in
     let zero = divisor_fault o t.kind c.args.place in
     let last = limits_fault k n c.args.place in
-    let h : None ≡ operands_fault o (part_of s) (part_of t) c.args.place = ap refused_by (sym c.in-ok-operands-pass.was) ∙ c.operands-pass.ensures in
-    c.within-limits.ensures
-    ∙ (limited_as c.args.place _ d _ k n n c.joint.ensures c.binary-kind.ensures refl
+    let h : None ≡ operands_fault o (part_of s) (part_of t) c.args.place = ap refused_by (sym c.in_ok-operands_pass.was) ∙ c.operands_pass.ensures in
+    c.within_limits.ensures
+    ∙ (limited_as c.args.place _ d _ k n n c.joint.ensures c.binary_kind.ensures refl
     ∙ (rest_of (operands_fault o (part_of s) (part_of t) c.args.place) last (announce d k n) h
     ∙ grouped fit zero last (announce d k n)))

@@ -7,4 +7,4 @@ use Rattle.checking.proofs.query.query_rule.Goals as goal
 pub returns : goal.returns
 returns c =
     let t = c.args.body in
-    c.within-reads.ensures ∙ ap (λ (i : ℕ). accepts (unless (leb (i * t.promise) most_reads) 11 0) (announce (extents t.domain) t.kind (i * t.promise))) c.cells-of-n.ensures
+    c.within_reads.ensures ∙ ap (λ (i : ℕ). accepts (unless (leb (i * t.promise) most_reads) 11 0) (announce (extents t.domain) t.kind (i * t.promise))) c.cells_of-n.ensures

@@ -6,9 +6,9 @@ use Rattle.checking.specs.Rules.{announce}
 use Rattle.checking.proofs.Turns.{passed, failed, reads_as}
 use Rattle.checking.proofs.subsets.slice_rule.Goals as goal
 
-pub returns-then-not-position-fits : goal.returns-then-not-position-fits
+pub returns-then-not-position_fits : goal.returns-then-not-position_fits
 unfolding slice_fault
-returns-then-not-position-fits c =
+returns-then-not-position_fits c =
     let t = c.args.operand in
     let q = c.args.position in
     let n = t.promise + q.promise in
@@ -16,11 +16,11 @@ returns-then-not-position-fits c =
     let inside = not c.args.twice && position_inside (d c.args.axis) q.kind in
     let single = fits_as a_number q.kind && no_axes (extents q.domain) in
     failed inside 6 c.args.place (first (unless single 7 c.args.place) (unless (leb n most_reads) 11 c.args.place)) (announce (set_axis d c.args.axis None) t.kind n)
-    (sym c.if-not-position-fits.ensures)
+    (sym c.if-not-position_fits.ensures)
 
-pub returns-then-not-is-single-number : goal.returns-then-not-is-single-number
+pub returns-then-not-is_single_number : goal.returns-then-not-is_single_number
 unfolding slice_fault
-returns-then-not-is-single-number c =
+returns-then-not-is_single_number c =
     let t = c.args.operand in
     let q = c.args.position in
     let n = t.promise + q.promise in
@@ -29,8 +29,8 @@ returns-then-not-is-single-number c =
     let single = fits_as a_number q.kind && no_axes (extents q.domain) in
     let last = unless (leb n most_reads) 11 c.args.place in
     let whole = announce (set_axis d c.args.axis None) t.kind n in
-    failed single 7 c.args.place last whole (sym c.if-not-is-single-number.ensures)
-    ∙ passed inside 6 c.args.place (first (unless single 7 c.args.place) last) whole (sym c.if-not-position-fits.ensures)
+    failed single 7 c.args.place last whole (sym c.if-not-is_single_number.ensures)
+    ∙ passed inside 6 c.args.place (first (unless single 7 c.args.place) last) whole (sym c.if-not-position_fits.ensures)
 
 pub returns : goal.returns
 unfolding slice_fault
@@ -44,7 +44,7 @@ returns c =
     let last = unless (leb n most_reads) 11 c.args.place in
     let cut = set_axis d c.args.axis None in
     let whole = announce cut t.kind n in
-    c.within-reads.ensures
-    ∙ (reads_as c.args.place _ cut t.kind n c.with-axis.ensures
-    ∙ (passed single 7 c.args.place last whole (sym c.if-not-is-single-number.ensures)
-    ∙ passed inside 6 c.args.place (first (unless single 7 c.args.place) last) whole (sym c.if-not-position-fits.ensures)))
+    c.within_reads.ensures
+    ∙ (reads_as c.args.place _ cut t.kind n c.with_axis.ensures
+    ∙ (passed single 7 c.args.place last whole (sym c.if-not-is_single_number.ensures)
+    ∙ passed inside 6 c.args.place (first (unless single 7 c.args.place) last) whole (sym c.if-not-position_fits.ensures)))

@@ -1,4 +1,4 @@
-use Rattle.std.proofs.Common.{◌≡◌, ◌≤◌, true, false, length, sym, refl, ◌∙◌, arith}
+use Rattle.std.proofs.Common.{◌≤◌, length, sym, refl, ◌∙◌, arith}
 use borrow.Author.Tests.{clash}
 use Rattle.lines.proofs.Compares.{next_stays, next_turns, order_all}
 use Rattle.lines.proofs.numeral.is_more.Goals as goal
@@ -10,7 +10,7 @@ loop-i-init c = λ h k. record { over = refl; under = refl }
 pub loop-i-preserved : goal.loop-i-preserved
 loop-i-preserved c = λ h k.
     elim c.if-not-more.branch [
-      | then-not-more+then-not-less w ↦ next_turns c.args.a.now c.args.b.now c.max-width.result c.loop-i.i c.digit-at-d.result c.digit-at-e.result c.loop-i.more c.loop-i.less c.if-not-more.more c.if-not-more.less w.if-not-more.true w.if-not-less.true c.digit-at-d.ensures c.digit-at-e.ensures w.more-is w.less-is (c.loop-i.invariant h k)
+      | then-not-more+then-not-less w ↦ next_turns c.args.a.now c.args.b.now c.max-width.result c.loop-i.i c.digit_at-d.result c.digit_at-e.result c.loop-i.more c.loop-i.less c.if-not-more.more c.if-not-more.less w.if-not-more.true w.if-not-less.true c.digit_at-d.ensures c.digit_at-e.ensures w.more-is w.less-is (c.loop-i.invariant h k)
       | else-not-more w ↦ next_stays c.args.a.now c.args.b.now c.max-width.result c.loop-i.i c.loop-i.more c.loop-i.less c.if-not-more.more c.if-not-more.less h k
           (elim w.else-not-more.branch [
             | else-not-more-via-then-not-more+else-not-less w' ↦ λ x y. clash (sym y ∙ w'.if-not-less.false)
