@@ -1,21 +1,20 @@
 -- A move of the machine undone: what the new stack derives, with the token before it, the old stack derives.
-use Rattle.std.proofs.Common.{◌≡◌, ℕ, zero, suc, ◌+◌, Bool, true, false, cond, eqb, List, [], ◌∷◌, ◌++◌, drop, ℤ, pos, neg_ℤ, Some, None, Option, sym, refl, ap, ◌∙◌, subst, arith}
+use Rattle.std.proofs.Common.{◌≡◌, ℕ, zero, suc, ◌+◌, Bool, true, false, cond, eqb, List, [], ◌∷◌, ◌++◌, ℤ, pos, neg_ℤ, Some, None, Option, sym, refl, ap, ◌∙◌, subst, arith}
 use Rattle.std.proofs.lemmas.Bool.{cond_both}
 use Rattle.coverage.specs.declared.axis.Axis.{Axis}
-use Rattle.syntax.specs.Tree.{Word, Binding, Query}
+use Rattle.syntax.specs.Tree.{Binding}
 use Rattle.syntax.specs.declared.Unary.TheVariants as unary
 use Rattle.syntax.specs.declared.Binary.{Binary}
-use Rattle.lexer.specs.declared.symbol.Symbol.{Symbol}
 use Rattle.lexer.specs.declared.symbol.Symbol.TheVariants as the
 use Rattle.lexer.specs.Tokens.{Tok, word, variable, numeral, symbol, bad, end}
 use Rattle.lexer.specs.Toks.{Placed}
 use Rattle.parser.specs.declared.roles.Opening.{Opening}
 use Rattle.parser.specs.declared.roles.Opening.TheVariants as opens
 use Rattle.parser.specs.declared.seen.Seen.{Seen}
-use Rattle.parser.specs.Axes.{axis_of, holds, marks}
+use Rattle.parser.specs.Axes.{axis_of, marks}
 use Rattle.parser.specs.Roles.{is, opening, opening_of, fold_of, join_of, number_of, word_of, variable_of}
 use Rattle.parser.specs.Actions.{Placing, Action, leaf, number, prefix, slice, join}
-use Rattle.parser.specs.Yields.{Yield, functioned}
+use Rattle.parser.specs.Yields.{functioned}
 use Rattle.parser.specs.Machine as m
 use Rattle.parser.specs.Machine.{Item, Head, Edge, condensing, covering, upper, trims, Moved, stuck, moved, pops, begins, opened, starts, bodies, given, either, when, ladder, levels, again, follows, iterating2, returning, finish, Verdict, accepted, refused, verdict, onward}
 use Rattle.parser.specs.Grammar as gr

@@ -1,11 +1,11 @@
 -- The levels of a chain: which of them takes an operator.
-use Rattle.std.proofs.Common.{◌≡◌, ℕ, zero, suc, ◌+◌, ◌-◌, ◌<◌, ◌≤◌, Bool, true, false, cond, eqb, ltb, List, [], ◌∷◌, ◌++◌, Some, None, Option, sym, refl, ap, ◌∙◌, subst, arith}
+use Rattle.std.proofs.Common.{◌≡◌, ℕ, zero, suc, ◌+◌, ◌<◌, ◌≤◌, Bool, true, false, cond, eqb, ltb, List, ◌∷◌, ◌++◌, Some, None, Option, sym, refl, ap, ◌∙◌, subst, arith}
 use Rattle.std.proofs.lemmas.Bool.{eqb-true, eqb-false, ltb-true, ltb-false, lt-ltb, le-ltb}
 use Rattle.lexer.specs.Tokens.{Tok}
 use Rattle.parser.specs.declared.roles.Operator.{Operator}
 use Rattle.parser.specs.Roles.{operator_of, of_level, join_of, between}
 use Rattle.parser.specs.Actions.{Action, join}
-use Rattle.parser.specs.Machine.{Item, Moved, moved, either, pops, finish, Verdict, operand, tail, ladder, again, acts}
+use Rattle.parser.specs.Machine.{Item, Moved, moved, either, pops, finish, operand, ladder, again, acts}
 
 pub finish_ladder : {S : Type 0} (act : Action → S → S) (k n : ℕ) (s : List Item) (st : S) (q : ℕ) → finish act (ladder k n ++ s) st q ≡ finish act s st q
 finish_ladder act zero n s st q = refl

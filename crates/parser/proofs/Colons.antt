@@ -1,5 +1,5 @@
 -- No expression reads past a numeral that a colon follows, with or without a minus before it.
-use Rattle.std.proofs.Common.{◌≡◌, ℕ, suc, Bool, true, false, List, [], ◌∷◌, Some, None, Option, sym, refl, ap, ◌∙◌, subst, arith}
+use Rattle.std.proofs.Common.{◌≡◌, ℕ, Bool, true, false, List, ◌∷◌, Some, None, Option, sym, refl, ap, ◌∙◌, subst, arith}
 use Rattle.syntax.specs.declared.Unary.{Unary}
 use Rattle.syntax.specs.declared.Unary.TheVariants as unary
 use Rattle.syntax.specs.declared.Binary.{Binary}
@@ -7,16 +7,16 @@ use Rattle.parser.specs.declared.roles.Function.{Function}
 use Rattle.std.proofs.lemmas.Bool.{true≢false}
 use Rattle.lexer.specs.declared.symbol.Symbol.{Symbol}
 use Rattle.lexer.specs.declared.symbol.Symbol.TheVariants as the
-use Rattle.lexer.specs.Tokens.{Tok, word, variable, numeral, symbol, bad, end}
+use Rattle.lexer.specs.Tokens.{Tok, numeral, symbol}
 use Rattle.lexer.specs.Toks.{Placed}
 use Rattle.parser.specs.declared.roles.Opening.{Opening}
 use Rattle.parser.specs.declared.roles.Opening.TheVariants as opens
 use Rattle.parser.specs.Axes.{axis_of}
-use Rattle.parser.specs.Roles.{is, number_of, word_of, variable_of, operator_of, join_of, opening_of}
+use Rattle.parser.specs.Roles.{is, number_of, word_of, variable_of, operator_of, opening_of}
 use Rattle.parser.specs.Yields.{Yield}
 use Rattle.parser.specs.Grammar as gr
 use Rattle.parser.specs.Grammar.{Is, Numeral, Opens, Sort, Gets}
-use Rattle.parser.proofs.See.{symbol_is, number_is}
+use Rattle.parser.proofs.See.{number_is}
 use Rattle.parser.proofs.Tokens.{none_some, unlike, unlike_opening, joined_at, two_symbols}
 
 pub first : (t u : Placed) (ts us : List Placed) → t ∷ ts ≡ u ∷ us → t ≡ u

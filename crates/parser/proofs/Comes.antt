@@ -1,7 +1,6 @@
 -- What a stack derives.
-use Rattle.std.proofs.Common.{◌≡◌, ℕ, zero, suc, ◌+◌, Bool, true, false, cond, eqb, ◌⊎◌, List, [], ◌∷◌, ◌++◌, drop, ℤ, pos, neg_ℤ, sym, refl, ap, ◌∙◌, subst, inl, inr}
+use Rattle.std.proofs.Common.{◌≡◌, ℕ, zero, suc, Bool, true, false, eqb, ◌⊎◌, List, [], ◌∷◌, ◌++◌, drop, ℤ, pos, neg_ℤ, sym, refl, ap, ◌∙◌, subst, inl, inr}
 use Rattle.coverage.specs.declared.axis.Axis.{Axis}
-use Rattle.coverage.specs.declared.range.Range.{Range}
 use Rattle.syntax.specs.Tree.{Word, Binding}
 use Rattle.syntax.specs.declared.Unary.TheVariants as unary
 use Rattle.syntax.specs.declared.Binary.{Binary}
@@ -11,7 +10,7 @@ use Rattle.lexer.specs.declared.symbol.Symbol.{Symbol}
 use Rattle.lexer.specs.declared.symbol.Symbol.TheVariants as the
 use Rattle.lexer.specs.Toks.{Placed}
 use Rattle.parser.specs.declared.seen.Seen.{Seen}
-use Rattle.parser.specs.Axes.{none_seen, holds, marks}
+use Rattle.parser.specs.Axes.{none_seen}
 use Rattle.parser.specs.Actions.{Placing, Action, prefix, bound, pick, condense, cover, placing, spanning}
 use Rattle.parser.specs.Yields.{Yield, joined}
 use Rattle.parser.specs.Machine as m

@@ -1,5 +1,5 @@
 -- After an iterator or a binding: a comma and one more, or none.
-use Rattle.std.proofs.Common.{◌≡◌, ℕ, zero, suc, true, false, cond, List, [], ◌∷◌, sym, refl, ap, ◌∙◌}
+use Rattle.std.proofs.Common.{◌≡◌, ℕ, zero, suc, true, false, cond, List, ◌∷◌, refl}
 use Rattle.syntax.specs.Tree.{Binding}
 use Rattle.lexer.specs.declared.symbol.Symbol.TheVariants.{Comma, Return}
 use Rattle.lexer.specs.declared.token.Lexed.{Lexed}
@@ -7,7 +7,7 @@ use Rattle.lexer.specs.Tokens.{Tok, tok}
 use Rattle.lexer.specs.Toks.{Peeked}
 use Rattle.parser.specs.Roles.{is}
 use Rattle.parser.specs.Actions.{Action, Placing, St, build}
-use Rattle.parser.specs.Machine.{Item, Head, Moved, moved, pops, bodies, when, returning, iterator, iterators, binding, bindings}
+use Rattle.parser.specs.Machine.{Item, Head, moved, pops, bodies, when, returning, iterator, iterators, binding, bindings}
 use Rattle.parser.specs.Reads.{on}
 use Rattle.parser.proofs.See.{turn, alike, symbol_some}
 

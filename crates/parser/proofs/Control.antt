@@ -1,6 +1,5 @@
 -- The stack alone decides what comes of a text: two states go the same way.
-use Rattle.std.proofs.Common.{◌≡◌, ℕ, zero, suc, Bool, true, false, cond, List, [], ◌∷◌, ◌++◌, Some, None, Option, sym, refl, ap, ◌∙◌, subst}
-use Rattle.syntax.specs.Tree.{Binding}
+use Rattle.std.proofs.Common.{◌≡◌, ℕ, zero, suc, Bool, true, false, cond, List, [], ◌∷◌, ◌++◌, Some, None, Option, refl, subst}
 use Rattle.lexer.specs.declared.symbol.Symbol.TheVariants as the
 use Rattle.lexer.specs.Tokens.{Tok, word, variable, numeral, symbol, bad, end}
 use Rattle.lexer.specs.Toks.{Placed}

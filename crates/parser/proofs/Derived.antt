@@ -7,7 +7,7 @@ use Rattle.parser.specs.declared.fault.TextFault.TheVariants.{TooLong, NoQuery, 
 use Rattle.parser.specs.Actions.{St, state, build}
 use Rattle.parser.specs.Yields.{Yield, mean}
 use Rattle.parser.specs.Tables.{constructs}
-use Rattle.parser.specs.Machine.{Verdict, accepted, refused, verdict, query}
+use Rattle.parser.specs.Machine.{Verdict, accepted, refused, query}
 use Rattle.parser.specs.Grammar.{Derives}
 use Rattle.parser.specs.Texts as table
 use Rattle.parser.specs.Theorem.{Clean, MeantBy, Meant}

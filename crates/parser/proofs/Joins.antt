@@ -1,12 +1,12 @@
 -- One part of the reader after another.
-use Rattle.std.proofs.Common.{◌≡◌, ℕ, ◌+◌, ◌<◌, ◌≤◌, List, [], ◌∷◌, ◌++◌, set, Ok, Err, Result, sym, refl, ap, ◌∙◌, subst₂, arith}
+use Rattle.std.proofs.Common.{◌≡◌, ℕ, ◌+◌, List, [], ◌∷◌, set, Ok, Err, Result, sym, ◌∙◌, subst₂, arith}
 use Rattle.parser.specs.declared.node.Node.{Node}
 use Rattle.parser.specs.declared.node.Construct.{Construct}
 use Rattle.parser.specs.declared.build.Done.{Done}
-use Rattle.parser.specs.Actions.{Val, val, St, state, node}
+use Rattle.parser.specs.Actions.{Val, val, state, node}
 use Rattle.parser.specs.Machine.{Item}
 use Rattle.parser.specs.Built.{value}
-use Rattle.parser.specs.Reads.{on, Reads, Fails, Parsed, Passes}
+use Rattle.parser.specs.Reads.{on, Reads, Parsed, Passes}
 
 pub placed : {x y : List Item} {us : List Val} {bs : List ℕ} {at n : ℕ} {was now now' : List Node} {d d' : Done} → now ≡ now' → d ≡ d' → Reads x y us bs at n was now' d' → Reads x y us bs at n was now d
 placed {x} {y} {us} {bs} {at} {n} {was} e f h = subst₂ (λ a b. Reads x y us bs at n was a b) (sym e) (sym f) h

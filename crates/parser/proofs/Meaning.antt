@@ -1,21 +1,20 @@
 -- The machine's verdict and the grammar.
-use Rattle.std.proofs.Common.{◌≡◌, ℕ, ◌<◌, ◌≤◌, Bool, true, false, cond, ltb, ◌⊎◌, List, [], ◌∷◌, ◌++◌, length, Some, None, Ok, Err, Option, Result, sym, refl, ap, ◌∙◌, subst, inl, inr, append_assoc, arith}
-use Rattle.std.proofs.lemmas.Bool.{ltb-true, ltb-false, false≢true}
-use Rattle.syntax.specs.Tree.{Binding}
+use Rattle.std.proofs.Common.{◌≡◌, ℕ, ◌≤◌, Bool, true, false, cond, ltb, ◌⊎◌, List, [], ◌∷◌, ◌++◌, length, Some, None, Ok, Err, Option, Result, sym, refl, ap, ◌∙◌, subst, inl, inr, append_assoc, arith}
+use Rattle.std.proofs.lemmas.Bool.{ltb-true, ltb-false}
 use Rattle.lexer.specs.Toks.{Placed, toks, first_bad}
 use Rattle.parser.specs.declared.node.Node.{Node}
 use Rattle.parser.specs.declared.fault.TextFault.{TextFault}
 use Rattle.parser.specs.declared.fault.TextFault.TheVariants.{TooLong, NoToken, NoQuery, TooLarge}
 use Rattle.parser.specs.declared.text.Reading.{Reading}
 use Rattle.parser.specs.Actions.{St, state, build}
-use Rattle.parser.specs.Yields.{Yield, mean}
+use Rattle.parser.specs.Yields.{mean}
 use Rattle.parser.specs.Machine.{Verdict, accepted, refused, verdict, query}
 use Rattle.parser.specs.Grammar.{Admits, Begins}
 use Rattle.parser.specs.Texts.{judged, outcome, reading, too_large, measured, unless_bad, answered}
-use Rattle.parser.specs.Theorem.{FirstFault, EndsEarly, Refusable, Clean, MeantBy, Meant, grammatical}
+use Rattle.parser.specs.Theorem.{FirstFault, EndsEarly, Refusable, Clean, Meant, grammatical}
 use Rattle.parser.proofs.Back.{Ends, sound, admitted}
 use Rattle.parser.proofs.Viable.{Halted, Short, Stops, stops}
-use Rattle.parser.proofs.Whole.{V, reach_query}
+use Rattle.parser.proofs.Whole.{reach_query}
 use Rattle.parser.proofs.Control.{Agree, agree}
 
 -- what is accepted with one state is accepted with the other

@@ -1,5 +1,5 @@
 -- What the next token makes of a stack.
-use Rattle.std.proofs.Common.{◌≡◌, ℕ, ◌+◌, ◌<◌, ◌≤◌, Bool, true, false, cond, List, [], ◌∷◌, ◌++◌, length, Some, None, Option, sym, refl, ap, ◌∙◌, subst, arith}
+use Rattle.std.proofs.Common.{◌≡◌, ℕ, ◌<◌, Bool, true, false, cond, List, [], ◌∷◌, length, Some, None, Option, sym, refl, ap, ◌∙◌, arith}
 use Rattle.std.proofs.lemmas.Bool.{false≢true}
 use Rattle.lexer.proofs.Apart.{same_symbol_lem}
 use Rattle.lexer.specs.declared.symbol.Symbol.{Symbol}
@@ -8,8 +8,8 @@ use Rattle.lexer.specs.Toks.{Placed, toks, consed, is_end, Peeked}
 use Rattle.lexer.specs.declared.token.Lexed.{Lexed}
 use Rattle.parser.specs.Roles.{is, number_of}
 use Rattle.parser.specs.Actions.{Action, St, build}
-use Rattle.parser.specs.Machine.{Item, Moved, stuck, moved, pops, finish, onward, Verdict, accepted, refused, verdict, given, acts, must, when}
-use Rattle.parser.specs.Reads.{on, Taken, Missed}
+use Rattle.parser.specs.Machine.{Item, stuck, moved, pops, finish, onward, Verdict, refused, verdict, acts}
+use Rattle.parser.specs.Reads.{on}
 
 abbrev pub Looked : ℕ → List Item → St → Tok → ℕ → List Placed → Verdict St
 Looked len s st t p ts = cond (is_end t) (finish build s st p) (onward (λ s' st'. verdict build len s' st' ts) p (pops build s st t p))

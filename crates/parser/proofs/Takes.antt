@@ -1,11 +1,10 @@
 -- A single token that is taken, or is not there.
-use Rattle.std.proofs.Common.{◌≡◌, ℕ, ◌+◌, ◌<◌, ◌≤◌, Bool, true, false, cond, List, [], ◌∷◌, ◌++◌, length, Some, None, Option, sym, refl, ap, ◌∙◌, subst, arith}
-use Rattle.std.proofs.lemmas.Bool.{false≢true}
+use Rattle.std.proofs.Common.{◌≡◌, ℕ, Bool, true, false, cond, List, [], ◌∷◌, length, Some, None, Option, sym, refl, ap, ◌∙◌, arith}
 use Rattle.lexer.specs.Tokens.{Tok, tok, word, variable, numeral, symbol, bad, end}
 use Rattle.lexer.specs.Toks.{Placed, toks, consed, is_end, Peeked}
 use Rattle.lexer.specs.declared.token.Lexed.{Lexed}
 use Rattle.parser.specs.Actions.{St, build}
-use Rattle.parser.specs.Machine.{Item, Moved, stuck, moved, pops, finish, onward, Verdict, refused, verdict, given}
+use Rattle.parser.specs.Machine.{Item, moved, pops, finish, onward, refused, verdict, given}
 use Rattle.parser.specs.Reads.{on, Taken, Missed}
 
 -- the stack waits for what f reads, and goes on with k

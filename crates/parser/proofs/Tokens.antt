@@ -1,6 +1,6 @@
 -- Which token a reading says that it is.
-use Rattle.std.proofs.Common.{◌≡◌, ℕ, suc, ◌+◌, ◌<◌, ◌≤◌, Bool, true, false, cond, eqb, List, [], ◌∷◌, Some, None, Option, sym, refl, ap, ◌∙◌, subst, arith}
-use Rattle.std.proofs.lemmas.Bool.{false≢true, eqb-true, ne_eqb}
+use Rattle.std.proofs.Common.{◌≡◌, ℕ, suc, ◌<◌, Bool, true, false, cond, eqb, List, [], ◌∷◌, Some, None, Option, sym, refl, ap, ◌∙◌, arith}
+use Rattle.std.proofs.lemmas.Bool.{eqb-true, ne_eqb}
 use Rattle.syntax.specs.Tree.{Word}
 use Rattle.syntax.specs.declared.Binary.{Binary}
 use Rattle.lexer.specs.declared.symbol.Symbol.{Symbol}
@@ -9,7 +9,6 @@ use Rattle.lexer.specs.Tokens.{Tok, word, variable, numeral, symbol, bad, end}
 use Rattle.lexer.specs.Toks.{Placed}
 use Rattle.parser.specs.declared.roles.Operator.{Operator}
 use Rattle.parser.specs.declared.roles.Opening.{Opening}
-use Rattle.parser.specs.declared.roles.Opening.TheVariants as opens
 use Rattle.parser.specs.Roles.{is, operator, operator_of, of_level, join_of, opening_of, word_of, variable_of}
 use Rattle.parser.specs.Grammar.{Is, Joins}
 use Rattle.parser.proofs.See.{symbol_is}

@@ -1,12 +1,12 @@
 -- Where the machine refuses: what came before can be completed, and with the token at fault nothing can.
-use Rattle.std.proofs.Common.{◌≡◌, ℕ, ◌+◌, Bool, true, ◌⊎◌, List, [], ◌∷◌, ◌++◌, drop, ℤ, sym, refl, ap, ◌∙◌, subst, inl, inr}
+use Rattle.std.proofs.Common.{◌≡◌, ℕ, true, ◌⊎◌, List, [], ◌∷◌, ◌++◌, ℤ, sym, refl, ap, subst, inl, inr}
 use Rattle.std.proofs.lemmas.Bool.{eq-eqb}
 use Rattle.coverage.specs.declared.range.Range.{Range}
 use Rattle.syntax.specs.Tree.{Binding}
 use Rattle.lexer.specs.declared.symbol.Symbol.{Symbol}
 use Rattle.lexer.specs.declared.symbol.Symbol.TheVariants as the
 use Rattle.lexer.specs.Symbols.{number}
-use Rattle.lexer.specs.Tokens.{Tok, word, variable, numeral, symbol}
+use Rattle.lexer.specs.Tokens.{word, variable, numeral, symbol}
 use Rattle.lexer.specs.Toks.{Placed}
 use Rattle.parser.specs.Roles.{is}
 use Rattle.parser.specs.Actions.{Placing, Action, leaf}

@@ -1,9 +1,9 @@
 -- What the grammar derives, the machine accepts, with the very yield of the derivation.
-use Rattle.std.proofs.Common.{◌≡◌, ℕ, zero, suc, ◌+◌, ◌<◌, Bool, true, false, cond, eqb, List, [], ◌∷◌, ◌++◌, drop, ℤ, pos, neg_ℤ, Some, None, Option, sym, refl, ap, ◌∙◌, subst, append_assoc, arith}
-use Rattle.std.proofs.lemmas.Bool.{false≢true, true≢false}
+use Rattle.std.proofs.Common.{◌≡◌, ℕ, zero, suc, ◌+◌, Bool, true, false, cond, eqb, List, [], ◌∷◌, ◌++◌, drop, ℤ, pos, neg_ℤ, Some, None, Option, sym, refl, ap, ◌∙◌, subst, append_assoc, arith}
+use Rattle.std.proofs.lemmas.Bool.{true≢false}
 use Rattle.coverage.specs.declared.axis.Axis.{Axis}
 use Rattle.coverage.specs.declared.range.Range.{Range}
-use Rattle.syntax.specs.Tree.{Word, Binding, Query}
+use Rattle.syntax.specs.Tree.{Binding, Query}
 use Rattle.syntax.specs.declared.Binary.{Binary}
 use Rattle.syntax.specs.declared.Unary.{Unary}
 use Rattle.syntax.specs.declared.Unary.TheVariants as unary
@@ -15,8 +15,8 @@ use Rattle.lexer.specs.Toks.{Placed}
 use Rattle.parser.specs.declared.roles.Opening.{Opening}
 use Rattle.parser.specs.declared.roles.Opening.TheVariants as opens
 use Rattle.parser.specs.declared.seen.Seen.{Seen}
-use Rattle.parser.specs.Axes.{axis_of, none_seen, holds, marks}
-use Rattle.parser.specs.Roles.{is, opening, opening_of, fold_of, join_of, number_of, word_of, variable_of}
+use Rattle.parser.specs.Axes.{none_seen, holds, marks}
+use Rattle.parser.specs.Roles.{is, opening_of, number_of, word_of, variable_of}
 use Rattle.parser.specs.Actions.{Placing, Action, placing, join, slice, leaf, number, prefix}
 use Rattle.parser.specs.Actions as actions
 use Rattle.parser.specs.Yields.{Yield, mean, joined}
@@ -26,7 +26,7 @@ use Rattle.parser.specs.Grammar as gr
 use Rattle.parser.specs.Grammar.{Is, Numeral, Worded, Variable, OnAxis, Sign, Joins, Opens, Limit, Ranged, Iterates, Binds, Listed, Sort, Gets, expression, level, subset, primary}
 use Rattle.parser.proofs.See.{done, symbol_is, number_is}
 use Rattle.parser.proofs.Commas.{past_iterators, past_bindings}
-use Rattle.parser.proofs.Tokens.{Free, free_symbol, free_joins, free_less, free_none, off, off_opening, word_is, variable_is, two_symbols}
+use Rattle.parser.proofs.Tokens.{Free, free_symbol, free_joins, free_less, off, off_opening, word_is, variable_is, two_symbols}
 use Rattle.parser.proofs.Colons.{first, colon_left, minus_left}
 
 -- the machine over yields

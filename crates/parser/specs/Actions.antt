@@ -1,6 +1,6 @@
 -- What reading a text builds, step by step: each action makes a construct of the last values, or changes
 -- the last one. It is told twice: of the table of nodes (`build`), and of trees (`mean`).
-use Rattle.std.specs.Prelude.{ℕ, ◌+◌, min, max, Bool, List, [], ◌∷◌, map, length, drop, ℤ, pos, slice_index_or, slice_set}
+use Rattle.std.specs.Prelude.{ℕ, ◌+◌, min, max, Bool, List, [], ◌∷◌, length, drop, ℤ, pos, slice_index_or, slice_set}
 use Rattle.coverage.specs.declared.axis.Axis.{Axis}
 use Rattle.coverage.specs.declared.axis.Axis.TheVariants.{X}
 use Rattle.coverage.specs.declared.range.Range.{Range}
@@ -10,7 +10,6 @@ use Rattle.syntax.specs.declared.Unary.{Unary}
 use Rattle.syntax.specs.declared.Unary.TheVariants as unary
 use Rattle.syntax.specs.declared.Binary.{Binary}
 use Rattle.syntax.specs.declared.Fold.{Fold}
-use Rattle.syntax.specs.declared.Reduce.{Reduce}
 use Rattle.parser.specs.declared.roles.Function.{Function}
 use Rattle.parser.specs.declared.roles.Function.TheVariants.{Abs, Over}
 use Rattle.parser.specs.declared.node.Part.{Part}

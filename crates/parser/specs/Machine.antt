@@ -1,11 +1,10 @@
 -- How a text is read token by token: a stack of what is still due, and a state that actions change. The
 -- stack alone decides what may come, so a token that may not come is the first with which no query begins.
-use Rattle.std.specs.Prelude.{ℕ, zero, suc, ◌+◌, Bool, true, false, cond, List, [], ◌∷◌, ◌++◌, drop, ℤ, pos, neg_ℤ, Some, None, Option, ◌==◌}
+use Rattle.std.specs.Prelude.{ℕ, zero, suc, Bool, cond, List, [], ◌∷◌, ◌++◌, drop, ℤ, pos, neg_ℤ, Some, None, Option, ◌==◌}
 use Rattle.coverage.specs.declared.axis.Axis.{Axis}
 use Rattle.coverage.specs.declared.range.Range.{Range}
 use Rattle.syntax.specs.Tree.{Word, Binding}
 use Rattle.syntax.specs.declared.Unary.TheVariants as unary
-use Rattle.syntax.specs.declared.Binary.{Binary}
 use Rattle.syntax.specs.declared.Fold.{Fold}
 use Rattle.lexer.specs.declared.symbol.Symbol.{Symbol}
 use Rattle.lexer.specs.declared.symbol.Symbol.TheVariants.{For, In, Return, Encode, Rows, Condense, Coverage, Over, Where, Using, Values, Open, Close, OpenSquare, CloseSquare, Comma, Colon, Minus}

@@ -18,7 +18,7 @@ use Rattle.parser.specs.declared.roles.Opening.{Opening}
 use Rattle.parser.specs.declared.node.Node.{Node}
 use Rattle.parser.specs.declared.build.Done.{Done}
 use Rattle.parser.specs.Built.{value}
-use Rattle.parser.specs.Actions.{Placing, Val, val, St, state, part, build, slice, iteration, iterations_of, binding, bindings_of}
+use Rattle.parser.specs.Actions.{Placing, Val, St, state, part, build, slice, iteration, iterations_of, binding, bindings_of}
 use Rattle.parser.specs.Machine.{Item, Edge, upper, trims, Verdict, refused, verdict, must, bound, follows, arg, expr, acts, Head, iterator, iterators, bindings, Moved, onward, opened}
 use Rattle.parser.specs.Machine as machine
 

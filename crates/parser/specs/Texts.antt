@@ -1,5 +1,5 @@
 -- Whole texts.
-use Rattle.std.specs.Prelude.{◌≡◌, ℕ, Bool, cond, ◌||◌, List, [], ◌∷◌, length, Some, None, Ok, Err, Option, Result, nat_lt}
+use Rattle.std.specs.Prelude.{◌≡◌, ℕ, Bool, cond, ◌||◌, List, [], length, Some, None, Ok, Err, Option, Result, nat_lt}
 use Rattle.syntax.specs.Tree.{Binding}
 use Rattle.lexer.specs.Toks.{toks, first_bad}
 use Rattle.parser.specs.declared.node.Node.{Node}

@@ -1,6 +1,6 @@
 -- What an expression's text yields: its tree, the byte where the text begins, and how deep expressions
 -- stand within it. Every construct is marked with the byte where its text begins.
-use Rattle.std.specs.Prelude.{ℕ, ◌+◌, max, Bool, List, [], ◌∷◌, map, drop, slice_index_or}
+use Rattle.std.specs.Prelude.{ℕ, ◌+◌, max, Bool, List, [], ◌∷◌, drop, slice_index_or}
 use Rattle.coverage.specs.declared.axis.Axis.{Axis}
 use Rattle.coverage.specs.declared.range.Range.{Range}
 use Rattle.syntax.specs.Tree.{Word, Iterator, Expr}

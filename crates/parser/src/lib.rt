@@ -1,5 +1,7 @@
 // The grammar of queries: a text is read into a table of nodes, or refused at the place where it stops
 // being the beginning of any query.
+#![tactic(auto)]
+
 pub mod build;
 pub mod expr;
 pub mod fault;

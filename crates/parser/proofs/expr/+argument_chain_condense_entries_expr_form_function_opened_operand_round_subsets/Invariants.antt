@@ -1,4 +1,4 @@
-use Rattle.std.proofs.Common.{◌+◌, ◌-◌, ◌*◌, ◌<◌, ◌≤◌, [], ◌∷◌, length}
+use Rattle.std.proofs.Common.{◌+◌, ◌-◌, ◌*◌, ◌≤◌, [], ◌∷◌, length}
 use Rattle.parser.specs.Machine.{ladder, subsets}
 use Rattle.parser.specs.Built.{value}
 use Rattle.parser.specs.Reads.{Reads}

@@ -1,64 +1,61 @@
-use Rattle.std.proofs.Common.{◌≡◌, true, false, [], ◌∷◌, sym, refl, ap, ◌∙◌, arith}
+use Rattle.std.proofs.Common.{[], ◌∷◌, sym, ◌∙◌, arith}
 use Rattle.std.proofs.lemmas.Result.{err_from_is_err_and}
-use Rattle.lexer.specs.declared.symbol.Symbol.TheVariants.{Comma}
-use Rattle.lexer.specs.Tokens.{tok}
-use Rattle.parser.specs.Roles.{is}
 use Rattle.parser.specs.declared.node.Bindings.TheVariants.{One, Two, Three, Four}
 use Rattle.parser.proofs.Commas.{last_binding, next_binding}
 use Rattle.parser.proofs.lists.bindings_at.Goals as goal
 
-pub returns-in-err-a : goal.returns-in-err-a
-returns-in-err-a c =
-    let x = err_from_is_err_and c.from-residual.result c.from-residual.ensures.1 in
-    rw (x.1, x.2) (λ s st. c.in-err-a.ensures 3 ([]) s st)
+pub returns-in_err-a : goal.returns-in_err-a
+returns-in_err-a c =
+    let x = err_from_is_err_and c.from_residual.result c.from_residual.ensures.1 in
+    rw (x.1, x.2) (λ s st. c.in_err-a.ensures 3 ([]) s st)
 
-pub returns-in-err-b : goal.returns-in-err-b
-returns-in-err-b c =
-    let x = err_from_is_err_and c.from-residual-in-err-b.result c.from-residual-in-err-b.ensures.1 in
-    rw (x.1, x.2) (λ s st. c.in-ok-a.ensures.turns 3 ([]) s st ∙ next_binding c.peek-t.ensures (sym c.is-symbol.ensures ∙ c.if-not-is-symbol.false) 2 (c.in-ok-a.ensures.what ∷ []) s st ∙ c.in-err-b.ensures 2 (c.in-ok-a.ensures.what ∷ []) s st)
+pub returns-in_err-b : goal.returns-in_err-b
+returns-in_err-b c =
+    let x = err_from_is_err_and c.from_residual-in_err-b.result c.from_residual-in_err-b.ensures.1 in
+    rw (x.1, x.2) (λ s st. c.in_ok-a.ensures.turns 3 ([]) s st ∙ next_binding c.peek-t.ensures (sym c.is_symbol.ensures ∙ c.if-not-is_symbol.false) 2 (c.in_ok-a.ensures.what ∷ []) s st ∙ c.in_err-b.ensures 2 (c.in_ok-a.ensures.what ∷ []) s st)
 
-pub returns-in-err-c : goal.returns-in-err-c
-returns-in-err-c c =
-    let x = err_from_is_err_and c.from-residual-in-err-c.result c.from-residual-in-err-c.ensures.1 in
-    rw (x.1, x.2) (λ s st. c.in-ok-a.ensures.turns 3 ([]) s st ∙ next_binding c.peek-t.ensures (sym c.is-symbol.ensures ∙ c.if-not-is-symbol.false) 2 (c.in-ok-a.ensures.what ∷ []) s st ∙ c.in-ok-b.ensures.turns 2 (c.in-ok-a.ensures.what ∷ []) s st ∙ next_binding c.peek-t-2.ensures (sym c.is-symbol-2.ensures ∙ c.if-not-is-symbol-2.false) 1 (c.in-ok-a.ensures.what ∷ c.in-ok-b.ensures.what ∷ []) s st ∙ c.in-err-c.ensures 1 (c.in-ok-a.ensures.what ∷ c.in-ok-b.ensures.what ∷ []) s st)
+pub returns-in_err-c : goal.returns-in_err-c
+returns-in_err-c c =
+    let x = err_from_is_err_and c.from_residual-in_err-c.result c.from_residual-in_err-c.ensures.1 in
+    rw (x.1, x.2) (λ s st. c.in_ok-a.ensures.turns 3 ([]) s st ∙ next_binding c.peek-t.ensures (sym c.is_symbol.ensures ∙ c.if-not-is_symbol.false) 2 (c.in_ok-a.ensures.what ∷ []) s st ∙ c.in_ok-b.ensures.turns 2 (c.in_ok-a.ensures.what ∷ []) s st ∙ next_binding c.peek-t-2.ensures (sym c.is_symbol-2.ensures ∙ c.if-not-is_symbol-2.false) 1 (c.in_ok-a.ensures.what ∷ c.in_ok-b.ensures.what ∷ []) s st ∙ c.in_err-c.ensures 1 (c.in_ok-a.ensures.what ∷ c.in_ok-b.ensures.what ∷ []) s st)
 
-pub returns-in-err-d : goal.returns-in-err-d
-returns-in-err-d c =
-    let x = err_from_is_err_and c.from-residual-in-err-d.result c.from-residual-in-err-d.ensures.1 in
-    rw (x.1, x.2) (λ s st. c.in-ok-a.ensures.turns 3 ([]) s st ∙ next_binding c.peek-t.ensures (sym c.is-symbol.ensures ∙ c.if-not-is-symbol.false) 2 (c.in-ok-a.ensures.what ∷ []) s st ∙ c.in-ok-b.ensures.turns 2 (c.in-ok-a.ensures.what ∷ []) s st ∙ next_binding c.peek-t-2.ensures (sym c.is-symbol-2.ensures ∙ c.if-not-is-symbol-2.false) 1 (c.in-ok-a.ensures.what ∷ c.in-ok-b.ensures.what ∷ []) s st ∙ c.in-ok-c.ensures.turns 1 (c.in-ok-a.ensures.what ∷ c.in-ok-b.ensures.what ∷ []) s st ∙ next_binding c.peek-t-3.ensures (sym c.is-symbol-3.ensures ∙ c.if-not-is-symbol-3.false) 0 (c.in-ok-a.ensures.what ∷ c.in-ok-b.ensures.what ∷ c.in-ok-c.ensures.what ∷ []) s st ∙ c.in-err-d.ensures 0 (c.in-ok-a.ensures.what ∷ c.in-ok-b.ensures.what ∷ c.in-ok-c.ensures.what ∷ []) s st)
+pub returns-in_err-d : goal.returns-in_err-d
+returns-in_err-d c =
+    let x = err_from_is_err_and c.from_residual-in_err-d.result c.from_residual-in_err-d.ensures.1 in
+    rw (x.1, x.2) (λ s st. c.in_ok-a.ensures.turns 3 ([]) s st ∙ next_binding c.peek-t.ensures (sym c.is_symbol.ensures ∙ c.if-not-is_symbol.false) 2 (c.in_ok-a.ensures.what ∷ []) s st ∙ c.in_ok-b.ensures.turns 2 (c.in_ok-a.ensures.what ∷ []) s st ∙ next_binding c.peek-t-2.ensures (sym c.is_symbol-2.ensures ∙ c.if-not-is_symbol-2.false) 1 (c.in_ok-a.ensures.what ∷ c.in_ok-b.ensures.what ∷ []) s st ∙ c.in_ok-c.ensures.turns 1 (c.in_ok-a.ensures.what ∷ c.in_ok-b.ensures.what ∷ []) s st ∙ next_binding c.peek-t-3.ensures (sym c.is_symbol-3.ensures ∙ c.if-not-is_symbol-3.false) 0 (c.in_ok-a.ensures.what ∷ c.in_ok-b.ensures.what ∷ c.in_ok-c.ensures.what ∷ []) s st ∙ c.in_err-d.ensures 0 (c.in_ok-a.ensures.what ∷ c.in_ok-b.ensures.what ∷ c.in_ok-c.ensures.what ∷ []) s st)
 
-pub returns-then-not-is-symbol : goal.returns-then-not-is-symbol
-returns-then-not-is-symbol c = record {
-  what = c.in-ok-a.ensures.what ∷ [];
-  same = λ i. One (c.in-ok-a.ensures.same i);
-  forward = omega (arith, c.in-ok-a.ensures.forward);
-  within = c.in-ok-a.ensures.within;
-  turns = λ s st. c.in-ok-a.ensures.turns 3 ([]) s st ∙ last_binding c.peek-t.ensures (sym c.is-symbol.ensures ∙ c.if-not-is-symbol.true) 3 (c.in-ok-a.ensures.what ∷ []) s st;
+pub returns-then-not-is_symbol : goal.returns-then-not-is_symbol
+returns-then-not-is_symbol c = record {
+  what = c.in_ok-a.ensures.what ∷ [];
+  same = λ i. One (c.in_ok-a.ensures.same i);
+  forward = omega (arith, c.in_ok-a.ensures.forward);
+  within = c.in_ok-a.ensures.within;
+  turns = λ s st. c.in_ok-a.ensures.turns 3 ([]) s st ∙ last_binding c.peek-t.ensures (sym c.is_symbol.ensures ∙ c.if-not-is_symbol.true) 3 (c.in_ok-a.ensures.what ∷ []) s st;
 }
 
-pub returns-then-not-is-symbol-2 : goal.returns-then-not-is-symbol-2
-returns-then-not-is-symbol-2 c = record {
-  what = c.in-ok-a.ensures.what ∷ c.in-ok-b.ensures.what ∷ [];
-  same = λ i. Two (c.in-ok-a.ensures.same i) (c.in-ok-b.ensures.same i);
-  forward = omega (arith, c.in-ok-a.ensures.forward, c.in-ok-b.ensures.forward, c.peek-t.ensures.after);
-  within = c.in-ok-b.ensures.within;
-  turns = λ s st. c.in-ok-a.ensures.turns 3 ([]) s st ∙ next_binding c.peek-t.ensures (sym c.is-symbol.ensures ∙ c.if-not-is-symbol.false) 2 (c.in-ok-a.ensures.what ∷ []) s st ∙ c.in-ok-b.ensures.turns 2 (c.in-ok-a.ensures.what ∷ []) s st ∙ last_binding c.peek-t-2.ensures (sym c.is-symbol-2.ensures ∙ c.if-not-is-symbol-2.true) 2 (c.in-ok-a.ensures.what ∷ c.in-ok-b.ensures.what ∷ []) s st;
+pub returns-then-not-is_symbol-2 : goal.returns-then-not-is_symbol-2
+returns-then-not-is_symbol-2 c = record {
+  what = c.in_ok-a.ensures.what ∷ c.in_ok-b.ensures.what ∷ [];
+  same = λ i. Two (c.in_ok-a.ensures.same i) (c.in_ok-b.ensures.same i);
+  forward = omega (arith, c.in_ok-a.ensures.forward, c.in_ok-b.ensures.forward, c.peek-t.ensures.after);
+  within = c.in_ok-b.ensures.within;
+  turns = λ s st. c.in_ok-a.ensures.turns 3 ([]) s st ∙ next_binding c.peek-t.ensures (sym c.is_symbol.ensures ∙ c.if-not-is_symbol.false) 2 (c.in_ok-a.ensures.what ∷ []) s st ∙ c.in_ok-b.ensures.turns 2 (c.in_ok-a.ensures.what ∷ []) s st ∙ last_binding c.peek-t-2.ensures (sym c.is_symbol-2.ensures ∙ c.if-not-is_symbol-2.true) 2 (c.in_ok-a.ensures.what ∷ c.in_ok-b.ensures.what ∷ []) s st;
 }
 
-pub returns-then-not-is-symbol-3 : goal.returns-then-not-is-symbol-3
-returns-then-not-is-symbol-3 c = record {
-  what = c.in-ok-a.ensures.what ∷ c.in-ok-b.ensures.what ∷ c.in-ok-c.ensures.what ∷ [];
-  same = λ i. Three (c.in-ok-a.ensures.same i) (c.in-ok-b.ensures.same i) (c.in-ok-c.ensures.same i);
-  forward = omega (arith, c.in-ok-a.ensures.forward, c.in-ok-b.ensures.forward, c.in-ok-c.ensures.forward, c.peek-t.ensures.after, c.peek-t-2.ensures.after);
-  within = c.in-ok-c.ensures.within;
-  turns = λ s st. c.in-ok-a.ensures.turns 3 ([]) s st ∙ next_binding c.peek-t.ensures (sym c.is-symbol.ensures ∙ c.if-not-is-symbol.false) 2 (c.in-ok-a.ensures.what ∷ []) s st ∙ c.in-ok-b.ensures.turns 2 (c.in-ok-a.ensures.what ∷ []) s st ∙ next_binding c.peek-t-2.ensures (sym c.is-symbol-2.ensures ∙ c.if-not-is-symbol-2.false) 1 (c.in-ok-a.ensures.what ∷ c.in-ok-b.ensures.what ∷ []) s st ∙ c.in-ok-c.ensures.turns 1 (c.in-ok-a.ensures.what ∷ c.in-ok-b.ensures.what ∷ []) s st ∙ last_binding c.peek-t-3.ensures (sym c.is-symbol-3.ensures ∙ c.if-not-is-symbol-3.true) 1 (c.in-ok-a.ensures.what ∷ c.in-ok-b.ensures.what ∷ c.in-ok-c.ensures.what ∷ []) s st;
+pub returns-then-not-is_symbol-3 : goal.returns-then-not-is_symbol-3
+returns-then-not-is_symbol-3 c = record {
+  what = c.in_ok-a.ensures.what ∷ c.in_ok-b.ensures.what ∷ c.in_ok-c.ensures.what ∷ [];
+  same = λ i. Three (c.in_ok-a.ensures.same i) (c.in_ok-b.ensures.same i) (c.in_ok-c.ensures.same i);
+  forward = omega (arith, c.in_ok-a.ensures.forward, c.in_ok-b.ensures.forward, c.in_ok-c.ensures.forward, c.peek-t.ensures.after, c.peek-t-2.ensures.after);
+  within = c.in_ok-c.ensures.within;
+  turns = λ s st. c.in_ok-a.ensures.turns 3 ([]) s st ∙ next_binding c.peek-t.ensures (sym c.is_symbol.ensures ∙ c.if-not-is_symbol.false) 2 (c.in_ok-a.ensures.what ∷ []) s st ∙ c.in_ok-b.ensures.turns 2 (c.in_ok-a.ensures.what ∷ []) s st ∙ next_binding c.peek-t-2.ensures (sym c.is_symbol-2.ensures ∙ c.if-not-is_symbol-2.false) 1 (c.in_ok-a.ensures.what ∷ c.in_ok-b.ensures.what ∷ []) s st ∙ c.in_ok-c.ensures.turns 1 (c.in_ok-a.ensures.what ∷ c.in_ok-b.ensures.what ∷ []) s st ∙ last_binding c.peek-t-3.ensures (sym c.is_symbol-3.ensures ∙ c.if-not-is_symbol-3.true) 1 (c.in_ok-a.ensures.what ∷ c.in_ok-b.ensures.what ∷ c.in_ok-c.ensures.what ∷ []) s st;
 }
 
 pub returns : goal.returns
 returns c = record {
-  what = c.in-ok-a.ensures.what ∷ c.in-ok-b.ensures.what ∷ c.in-ok-c.ensures.what ∷ c.in-ok-d.ensures.what ∷ [];
-  same = λ i. Four (c.in-ok-a.ensures.same i) (c.in-ok-b.ensures.same i) (c.in-ok-c.ensures.same i) (c.in-ok-d.ensures.same i);
-  forward = omega (arith, c.in-ok-a.ensures.forward, c.in-ok-b.ensures.forward, c.in-ok-c.ensures.forward, c.in-ok-d.ensures.forward, c.peek-t.ensures.after, c.peek-t-2.ensures.after, c.peek-t-3.ensures.after);
-  within = c.in-ok-d.ensures.within;
-  turns = λ s st. c.in-ok-a.ensures.turns 3 ([]) s st ∙ next_binding c.peek-t.ensures (sym c.is-symbol.ensures ∙ c.if-not-is-symbol.false) 2 (c.in-ok-a.ensures.what ∷ []) s st ∙ c.in-ok-b.ensures.turns 2 (c.in-ok-a.ensures.what ∷ []) s st ∙ next_binding c.peek-t-2.ensures (sym c.is-symbol-2.ensures ∙ c.if-not-is-symbol-2.false) 1 (c.in-ok-a.ensures.what ∷ c.in-ok-b.ensures.what ∷ []) s st ∙ c.in-ok-c.ensures.turns 1 (c.in-ok-a.ensures.what ∷ c.in-ok-b.ensures.what ∷ []) s st ∙ next_binding c.peek-t-3.ensures (sym c.is-symbol-3.ensures ∙ c.if-not-is-symbol-3.false) 0 (c.in-ok-a.ensures.what ∷ c.in-ok-b.ensures.what ∷ c.in-ok-c.ensures.what ∷ []) s st ∙ c.in-ok-d.ensures.turns 0 (c.in-ok-a.ensures.what ∷ c.in-ok-b.ensures.what ∷ c.in-ok-c.ensures.what ∷ []) s st;
+  what = c.in_ok-a.ensures.what ∷ c.in_ok-b.ensures.what ∷ c.in_ok-c.ensures.what ∷ c.in_ok-d.ensures.what ∷ [];
+  same = λ i. Four (c.in_ok-a.ensures.same i) (c.in_ok-b.ensures.same i) (c.in_ok-c.ensures.same i) (c.in_ok-d.ensures.same i);
+  forward = omega (arith, c.in_ok-a.ensures.forward, c.in_ok-b.ensures.forward, c.in_ok-c.ensures.forward, c.in_ok-d.ensures.forward, c.peek-t.ensures.after, c.peek-t-2.ensures.after, c.peek-t-3.ensures.after);
+  within = c.in_ok-d.ensures.within;
+  turns = λ s st. c.in_ok-a.ensures.turns 3 ([]) s st ∙ next_binding c.peek-t.ensures (sym c.is_symbol.ensures ∙ c.if-not-is_symbol.false) 2 (c.in_ok-a.ensures.what ∷ []) s st ∙ c.in_ok-b.ensures.turns 2 (c.in_ok-a.ensures.what ∷ []) s st ∙ next_binding c.peek-t-2.ensures (sym c.is_symbol-2.ensures ∙ c.if-not-is_symbol-2.false) 1 (c.in_ok-a.ensures.what ∷ c.in_ok-b.ensures.what ∷ []) s st ∙ c.in_ok-c.ensures.turns 1 (c.in_ok-a.ensures.what ∷ c.in_ok-b.ensures.what ∷ []) s st ∙ next_binding c.peek-t-3.ensures (sym c.is_symbol-3.ensures ∙ c.if-not-is_symbol-3.false) 0 (c.in_ok-a.ensures.what ∷ c.in_ok-b.ensures.what ∷ c.in_ok-c.ensures.what ∷ []) s st ∙ c.in_ok-d.ensures.turns 0 (c.in_ok-a.ensures.what ∷ c.in_ok-b.ensures.what ∷ c.in_ok-c.ensures.what ∷ []) s st;
 }

@@ -1,4 +1,4 @@
-use Rattle.std.proofs.Common.{◌≡◌, is_ok, sym, ap, ◌∙◌, subst}
+use Rattle.std.proofs.Common.{is_ok, sym, ap, ◌∙◌, subst}
 use Rattle.parser.specs.Says.{Said}
 use Rattle.parser.specs.Theorem.{Meant, grammatical}
 use Rattle.parser.proofs.Derived.{texts_say_what_the_grammar_derives_lem}
