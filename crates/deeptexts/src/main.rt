@@ -1,5 +1,7 @@
 // Texts of 4,096 bytes that nest as deep as they can: each is answered on a stack of 8 MiB. Every text
 // begins a query, and then repeats one piece to its end.
+#![tactic(auto)]
+
 ghost use Rattle.std.specs.Prelude.{ℕ, ◌<◌, length};
 
 use coverage::Returned;

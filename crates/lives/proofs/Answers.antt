@@ -12,7 +12,7 @@ use Rattle.shelf.specs.Meaning.{Coverage}
 use Rattle.shelf.specs.Laws.{Lawful}
 use Rattle.syntax.specs.Tree.{Query}
 use Rattle.language.specs.Typing.{Described}
-use Rattle.language.specs.Queries.{Announced, announced, answer, bind_about, bind_looks, cell_at, checked, query_domain}
+use Rattle.language.specs.Queries.{Announced, answer, bind_about, bind_looks, cell_at, checked, query_domain}
 use Rattle.language.proofs.Theorems.{query_accepted, values_lie_in_their_span, reads_stay_within_the_promise_lem, known_cells_never_change_holds, answers_depend_only_on_cells_inside_lem}
 use Rattle.language.proofs.Shelves.{bind_sound, bind_alike}
 use Rattle.language.proofs.Answered.{answers_hold_their_cells}

@@ -1,17 +1,16 @@
 -- What a text says is what the grammar derives from its tokens.
-use Rattle.std.proofs.Common.{◌≡◌, ℕ, ◌+◌, ◌<◌, ◌≤◌, Bool, true, false, cond, ◌||◌, ltb, ◌⊎◌, List, [], ◌∷◌, length, Some, None, Ok, Err, Option, Result, sym, refl, ap, ◌∙◌, subst, ap₂, inl, inr, arith, ltb-false, ltb-true, le-ltb}
+use Rattle.std.proofs.Common.{◌≡◌, ℕ, ◌+◌, ◌<◌, ◌≤◌, Bool, true, false, cond, ◌||◌, ltb, ◌⊎◌, List, [], length, Some, None, Ok, Err, Option, Result, sym, refl, ap, ◌∙◌, subst, ap₂, inl, inr, arith, ltb-false, ltb-true, le-ltb}
 use Rattle.syntax.specs.Tree.{Binding, Expr, Query}
 use Rattle.lexer.specs.Toks.{toks, first_bad}
 use Rattle.parser.specs.declared.fault.TextFault.{TextFault}
-use Rattle.parser.specs.declared.fault.TextFault.TheVariants.{TooLong, NoToken, NoQuery, TooLarge}
-use Rattle.parser.specs.declared.text.Reading.{Reading}
+use Rattle.parser.specs.declared.fault.TextFault.TheVariants.{TooLong, NoQuery, TooLarge}
 use Rattle.parser.specs.Actions.{St, state, build}
-use Rattle.parser.specs.Yields.{Yield, mean, last}
+use Rattle.parser.specs.Yields.{Yield, mean}
 use Rattle.parser.specs.Tables.{constructs}
-use Rattle.parser.specs.Machine.{Verdict, accepted, refused, verdict, query}
-use Rattle.parser.specs.Grammar.{Admits, Derives}
+use Rattle.parser.specs.Machine.{Verdict, accepted, refused, query}
+use Rattle.parser.specs.Grammar.{Derives}
 use Rattle.parser.specs.Texts as table
-use Rattle.parser.specs.Theorem.{Clean, Refusable, MeantBy, Meant}
+use Rattle.parser.specs.Theorem.{Clean, MeantBy, Meant}
 use Rattle.parser.proofs.Back.{Ends, sound, admitted}
 use Rattle.parser.proofs.Whole.{Reached, reach_query}
 use Rattle.parser.proofs.Control.{Agree, agree}

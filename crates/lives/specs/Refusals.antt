@@ -1,6 +1,6 @@
 -- The refusals of a check in their turn, on texts over the roof of Worked: 12, then 1 to 4 over the whole text,
 -- then bindings and constructs.
-use Rattle.std.specs.Prelude.{◌≡◌, ℕ, zero, suc, List, ◌∷◌, ◌++◌, replicate, pos, Err, codes}
+use Rattle.std.specs.Prelude.{◌≡◌, ℕ, zero, suc, List, ◌++◌, replicate, pos, Err, codes}
 use Rattle.coverage.specs.declared.refusal.Layer.TheVariants as layer
 use Rattle.coverage.specs.Axes.{no_extents}
 use Rattle.parser.specs.Faults.{told}

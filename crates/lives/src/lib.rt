@@ -1,6 +1,8 @@
 //! What holds at every step of every life of a unit, told and proved of the definitions alone. A reader
 //! begins in specs/ with Texts, Derived, Shelves and Unit, goes on with Calls (one call and its answer) and Life
 //! (a list of calls), and ends with Theorem. Worked, Refusals and Example have cases.
+#![tactic(auto)]
+
 pub mod cell;
 pub mod laws;
 
