@@ -1,11 +1,10 @@
 -- An answered line leads on.
-use Rattle.std.proofs.Common.{◌≡◌, ℕ, ◌⊎◌, List, Ok, Err, Result, sym, subst, inl, inr}
+use Rattle.std.proofs.Common.{ℕ, List, Ok, Err, Result, sym, subst, inl, inr}
 use Rattle.std.specs.declared.alloc.AllocError.{AllocError}
 use Rattle.shelf.specs.Meaning.{Coverage}
 use Rattle.lines.specs.declared.command.Command.{Command}
-use Rattle.lines.specs.Says.{Says}
 use Rattle.roofunit.specs.declared.reply.Reply.{Reply}
-use Rattle.roofunit.specs.Answers.{after_command, Served, Stopped, Answered, Led, at_first, then_by}
+use Rattle.roofunit.specs.Answers.{Served, Stopped, Answered, Led, then_by}
 
 by_served : (f m k : List Coverage) (c : Command) (r : Result Reply AllocError) → Led f m → Served m c k r → Led f k
 by_served f m k c (Ok p) l h = then_by l c h.0

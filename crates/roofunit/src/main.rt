@@ -1,4 +1,6 @@
 // Makes a grid, takes its strips, and shows its cells, by lines of standard input.
+#![tactic(auto)]
+
 ghost use Rattle.roofunit.specs.Answers.{Led};
 
 use coverage::{Domain, Kind, Range};

@@ -8,8 +8,8 @@ loop-init g c = at_first
 pub loop-preserved : goal.loop-preserved
 loop-preserved g c = leads _ _ _ _ _ c.loop.invariant c.answer.ensures
 
-pub returns-in-err-answer : goal.returns-in-err-answer
-returns-in-err-answer g c = leads _ _ _ _ _ c.loop.invariant c.answer.ensures
+pub returns-in_err-answer : goal.returns-in_err-answer
+returns-in_err-answer g c = leads _ _ _ _ _ c.loop.invariant c.answer.ensures
 
-pub returns-in-err-tell : goal.returns-in-err-tell
-returns-in-err-tell g c = leads _ _ _ _ _ c.loop.invariant c.answer.ensures
+pub returns-in_err-tell : goal.returns-in_err-tell
+returns-in_err-tell g c = leads _ _ _ _ _ c.loop.invariant c.answer.ensures
