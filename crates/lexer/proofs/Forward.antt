@@ -1,19 +1,17 @@
 -- A token ends past where it was looked for, so the tokens of a text do not depend on the bound.
-use Rattle.std.proofs.Common.{◌≡◌, ℕ, zero, suc, ◌+◌, ◌-◌, ◌<◌, ◌≤◌, Bool, true, false, cond, ◌&&◌, ◌||◌, eqb, ltb, leb, List, [], ◌∷◌, length, get_or, take, drop, Some, None, codes, Option, sym, refl, ap, ◌∙◌, subst, arith, length-drop}
-use Rattle.std.specs.List.{prefix_len}
+use Rattle.std.proofs.Common.{◌≡◌, ℕ, zero, suc, ◌+◌, ◌-◌, ◌<◌, ◌≤◌, Bool, true, false, ◌&&◌, ◌||◌, eqb, ltb, leb, List, length, get_or, drop, Some, None, codes, Option, sym, refl, ap, ◌∙◌, subst, arith, length-drop}
 use Rattle.std.specs.Str.{bytes_eq}
 use Rattle.std.proofs.lemmas.List.Sums.{prefix_len-drop_yes, prefix_len-le-length}
 use Rattle.std.proofs.lemmas.Bool.{cond_both, leb-true, leb-false, false≢true, or_left, and_parts, ltb-true}
-use Rattle.lexer.specs.Symbols.{number}
 use Rattle.lexer.specs.declared.symbol.Symbol.{Symbol}
 use Rattle.lexer.specs.declared.bytes.Class.{Class}
 use Rattle.lexer.specs.declared.bytes.Class.TheVariants.{Blank, Digit, Part}
 use Rattle.lexer.specs.Bytes.{letter, digit, member, run}
 use Rattle.lexer.specs.Numerals.{decimal}
 use Rattle.lexer.specs.Reserved.{word_token, or_else, clause_word, operator_word, function_word}
-use Rattle.lexer.specs.Tokens.{Tok, word, variable, numeral, symbol, bad, end, Seen, seen, view, tok}
-use Rattle.lexer.specs.Lexing.{cut, word_of, word_at, variable_of, variable_at, numeral_of, numeral_at, rows_at, mark_token, pair_token, paired, mark_at, token_at, lexed}
-use Rattle.lexer.specs.Toks.{Placed, is_end, consed, listed, toks_by, toks, Peeked}
+use Rattle.lexer.specs.Tokens.{Tok, Seen, seen, view, tok}
+use Rattle.lexer.specs.Lexing.{cut, word_at, variable_at, numeral_at, rows_at, mark_token, pair_token, paired, mark_at, token_at, lexed}
+use Rattle.lexer.specs.Toks.{is_end, consed, listed, toks_by, toks, Peeked}
 use Rattle.lexer.specs.declared.token.Lexed.{Lexed}
 
 pub record Onward (bs : List ℕ) (at : ℕ) (t : Tok) (s n : ℕ) : Type 0 where

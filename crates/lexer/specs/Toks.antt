@@ -1,5 +1,5 @@
 -- The tokens of a text from a byte on, each with its place.
-use Rattle.std.specs.Prelude.{◌≡◌, ℕ, zero, suc, ◌+◌, ◌-◌, ◌<◌, ◌≤◌, Bool, true, false, cond, List, [], ◌∷◌, length, Some, None, Option}
+use Rattle.std.specs.Prelude.{◌≡◌, ℕ, zero, suc, ◌-◌, ◌<◌, ◌≤◌, Bool, true, false, cond, List, [], ◌∷◌, length, Some, None, Option}
 use Rattle.lexer.specs.Tokens.{Tok, word, variable, numeral, symbol, bad, end, Seen, seen, tok}
 use Rattle.lexer.specs.Lexing.{lexed}
 use Rattle.lexer.specs.declared.token.Lexed.{Lexed}

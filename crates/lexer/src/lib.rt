@@ -1,5 +1,7 @@
 // The tokens of a query's text, each with its place. Bytes 9, 10, 13 and 32 separate tokens; the longest
 // match is taken. What is no token is told at its first byte.
+#![tactic(auto)]
+
 pub mod bytes;
 pub mod faults;
 pub mod next;

@@ -1,5 +1,7 @@
 // Shelves upon shelves: strips arrive through a window on a join of a ramp and a window on a grid, and
 // the picture is seen through each of them.
+#![tactic(auto)]
+
 use coverage::{Domain, Kind, Range};
 use shelf::{ReceivingShelf, Shelf};
 use shelf_laws::{Cut, Slopes};

@@ -1,3 +1,5 @@
+#![tactic(auto)]
+
 // Tests of the shelves, apart from them so that they are not proved twice.
 #[cfg(test)]
 mod fixed;

@@ -1,4 +1,6 @@
 // Every refusal of the shelves' calls and makings, on both sides of each limit: a line for each case.
+#![tactic(auto)]
+
 use std::io;
 
 pub mod asked;
