@@ -115,8 +115,8 @@ reads_stay_within_the_promise_lem = record {
   of_an_answer = λ find look q t e. reads_law find q t e look;
 }
 
-pub known_cells_never_change_holds : KnownCellsNeverChange
-known_cells_never_change_holds find look later s h q t e n v a = of_grown (cell_at find look q n) (cell_at find later q n) v (grows_law find q t e look later s h n) a
+pub known_cells_never_change_lem : KnownCellsNeverChange
+known_cells_never_change_lem find look later s h q t e n v a = of_grown (cell_at find look q n) (cell_at find later q n) v (grows_law find q t e look later s h n) a
 
 pub nothing_null_reads_the_promise : NothingNullReadsThePromise
 nothing_null_reads_the_promise = record {

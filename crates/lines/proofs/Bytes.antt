@@ -8,13 +8,13 @@ pub at_byte : (p : ℕ) (s : List Piece) (b : ℕ) (bs : List ℕ) → stop p s 
 unfolding stop
 at_byte p s b bs = refl
 
-pub at_end_holds : (p : ℕ) (s : List Piece) → stop p s [] ≡ cond (complete s) None (Some p)
+pub at_end_lem : (p : ℕ) (s : List Piece) → stop p s [] ≡ cond (complete s) None (Some p)
 unfolding stop
-at_end_holds p s = refl
+at_end_lem p s = refl
 
 -- pieces that end alike and go on alike stop alike
 pub alike : (p : ℕ) (s t : List Piece) (bs : List ℕ) → complete s ≡ complete t → ((b : ℕ) (r : List ℕ) → bs ≡ b ∷ r → after s b ≡ after t b) → stop p s bs ≡ stop p t bs
-alike p s t [] e f = at_end_holds p s ∙ ap (λ (c : Bool). cond c None (Some p)) e ∙ sym (at_end_holds p t)
+alike p s t [] e f = at_end_lem p s ∙ ap (λ (c : Bool). cond c None (Some p)) e ∙ sym (at_end_lem p t)
 alike p s t (b ∷ bs) e f = at_byte p s b bs ∙ ap (follow (λ s'. stop (suc p) s' bs) p) (f b bs refl) ∙ sym (at_byte p t b bs)
 
 -- a byte that goes on
@@ -33,7 +33,7 @@ pub halts_at : (line : List ℕ) (p : ℕ) (s : List Piece) → p < length line 
 halts_at line p s h e = ap (stop p s) (drop_more line p 0 h) ∙ halts p s (get_or line p 0) (drop (p + 1) line) e
 
 pub ends_at : (line : List ℕ) (p : ℕ) (s : List Piece) → length line ≤ p → complete s ≡ false → stop p s (drop p line) ≡ Some p
-ends_at line p s h e = ap (stop p s) (drop_all p line h) ∙ at_end_holds p s ∙ ap (λ (c : Bool). cond c None (Some p)) e
+ends_at line p s h e = ap (stop p s) (drop_all p line h) ∙ at_end_lem p s ∙ ap (λ (c : Bool). cond c None (Some p)) e
 
 -- ---- parts
 

@@ -4,7 +4,7 @@ use Rattle.std.specs.List.{between}
 use Rattle.std.proofs.lemmas.List.{drop_more, drop_all}
 use Rattle.coverage.proofs.Bools.{by_test}
 use Rattle.lines.specs.Pieces.{Piece, text, closed, onto, after, stop}
-use Rattle.lines.proofs.Bytes.{goes, at_end_holds, part_then}
+use Rattle.lines.proofs.Bytes.{goes, at_end_lem, part_then}
 
 -- whether bytes end with a closing bracket, c telling it of the byte before them
 abbrev closing : Bool → List ℕ → Bool
@@ -19,8 +19,8 @@ item_onto true b = by_test (eqb b 41) (λ e. rw e refl) (λ e. rw e refl)
 item_onto false b = by_test (eqb b 41) (λ e. rw e refl) (λ e. rw e refl)
 
 item_end : (c : Bool) (p : ℕ) → stop p (item c ∷ []) [] ≡ cond c None (Some (p + 0))
-item_end true p = at_end_holds p (closed ∷ [])
-item_end false p = let e : p ≡ p + 0 = omega arith in at_end_holds p (text ∷ []) ∙ ap (λ (n : ℕ). some n) e
+item_end true p = at_end_lem p (closed ∷ [])
+item_end false p = let e : p ≡ p + 0 = omega arith in at_end_lem p (text ∷ []) ∙ ap (λ (n : ℕ). some n) e
   where
     some : ℕ → Option ℕ
     some n = Some n

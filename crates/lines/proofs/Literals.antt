@@ -3,7 +3,7 @@ use Rattle.std.proofs.Common.{◌≡◌, ℕ, ◌+◌, ◌<◌, ◌≤◌, Bool,
 use Rattle.std.specs.List.{between}
 use Rattle.std.proofs.lemmas.List.{drop_more, drop_all, take_more, take_all}
 use Rattle.lines.specs.Pieces.{Piece, word, stuck, onto, after, complete, stop, Reads, Stops}
-use Rattle.lines.proofs.Bytes.{alike, at_end_holds, goes_at, halts_at, ends_at, part_is, part_then}
+use Rattle.lines.proofs.Bytes.{alike, at_end_lem, goes_at, halts_at, ends_at, part_is, part_then}
 
 -- i bytes of a word were read, from at to here
 pub record Lit (line w : List ℕ) (at here i : ℕ) : Type 0 where
@@ -59,6 +59,6 @@ close_early line at n h r = r.turns [] ∙ halts_at line n [] h refl
 pub close_last : (line : List ℕ) (at n : ℕ) → length line ≤ n → Reads (word (41 ∷ []) ∷ []) line at n → between at n line ≡ 41 ∷ [] → (stop at (word (41 ∷ []) ∷ []) (drop at line) ≡ None) × (drop at line ≡ 41 ∷ [])
 close_last line at n h r e =
     let d = drop_all n line h in (
-      r.turns [] ∙ ap (stop n []) d ∙ at_end_holds n [],
+      r.turns [] ∙ ap (stop n []) d ∙ at_end_lem n [],
       part_then line at n r.forward ∙ ap (λ (w : List ℕ). w ++ drop n line) e ∙ ap (λ (w : List ℕ). 41 ∷ w) d,
     )

@@ -4,7 +4,7 @@ use Rattle.std.specs.List.{between}
 use Rattle.std.proofs.lemmas.List.{drop_more, append_cancel_right}
 use Rattle.lines.specs.Numerals.{is_digit, is_count, is_number, words_of, all_numbers}
 use Rattle.lines.specs.Pieces.{Piece, digits, more, number, others, stuck, onto, after, stop, Reads, Stops, Read}
-use Rattle.lines.proofs.Bytes.{alike, at_end_holds, goes_at, part_then, inside}
+use Rattle.lines.proofs.Bytes.{alike, at_end_lem, goes_at, part_then, inside}
 use Rattle.lines.proofs.Words.{count_number, minus_number, number_word, words_append, numbers_append}
 
 -- ---- parts of a line
@@ -39,7 +39,7 @@ other_byte line at k b bs b' r h q e =
 
 -- without a minus a number is a count
 plain : (line : List ℕ) (at : ℕ) (s : List Piece) → (at < length line → get_or line at 0 ≡ 45 → ⊥) → (bs : List ℕ) → drop at line ≡ bs → stop at (number ∷ s) bs ≡ stop at (digits ∷ s) bs
-plain line at s h [] q = at_end_holds at (number ∷ s) ∙ sym (at_end_holds at (digits ∷ s))
+plain line at s h [] q = at_end_lem at (number ∷ s) ∙ sym (at_end_lem at (digits ∷ s))
 plain line at s h (b ∷ bs) q = alike at (number ∷ s) (digits ∷ s) (b ∷ bs) refl (λ b' r e. ap (λ (c : Bool). cond c (onto (digits ∷ s)) (cond (is_digit b') (onto (more ∷ s)) stuck)) (other_byte line at 45 b bs b' r h q e))
 
 pub without_minus : (line : List ℕ) (at : ℕ) (r : Result ℕ ℕ) → (at < length line → get_or line at 0 ≡ 45 → ⊥) → Read (digits ∷ []) (λ w. is_count w ≡ true) line at r → Read (number ∷ []) (λ w. is_number w ≡ true) line at r
@@ -90,7 +90,7 @@ listing_none line at p r = record { forward = r.forward; within = r.within; turn
 
 -- without a blank there are no further numbers
 no_others : (line : List ℕ) (here : ℕ) (s : List Piece) → (here < length line → get_or line here 0 ≡ 32 → ⊥) → (bs : List ℕ) → drop here line ≡ bs → stop here (others ∷ s) bs ≡ stop here s bs
-no_others line here s h [] q = at_end_holds here (others ∷ s) ∙ sym (at_end_holds here s)
+no_others line here s h [] q = at_end_lem here (others ∷ s) ∙ sym (at_end_lem here s)
 no_others line here s h (b ∷ bs) q = alike here (others ∷ s) s (b ∷ bs) refl (λ b' r e. ap (λ (c : Bool). cond c (onto (number ∷ others ∷ s)) (after s b')) (other_byte line here 32 b bs b' r h q e))
 
 pub listing_all : (line : List ℕ) (at here : ℕ) → (here < length line → get_or line here 0 ≡ 32 → ⊥) → Listing line at here → Reads (number ∷ others ∷ []) line at here × (all_numbers (words_of (between at here line)) ≡ true)

@@ -6,7 +6,7 @@ use Rattle.std.proofs.lemmas.List.Sums.{prefix_len-le-length}
 use Rattle.coverage.proofs.Bools.{by_test, and_both}
 use Rattle.lines.specs.Numerals.{is_digit, all_digits, is_count}
 use Rattle.lines.specs.Pieces.{Piece, digits, more, name, is_name_byte, stuck, onto, after, complete, stop, Reads, Stops}
-use Rattle.lines.proofs.Bytes.{alike, goes, halts, at_end_holds, no_cons, same_first}
+use Rattle.lines.proofs.Bytes.{alike, goes, halts, at_end_lem, no_cons, same_first}
 
 -- a piece that takes bytes of one sort as long as they come, and then gives way
 module _ (sort : ℕ → Bool) (x : Piece)
@@ -43,7 +43,7 @@ name_run line at h =
 -- ---- digits, one at least
 
 digits_none : (p : ℕ) (s : List Piece) (bs : List ℕ) → prefix_len is_digit bs ≡ 0 → stop p (digits ∷ s) bs ≡ Some p
-digits_none p s [] h = at_end_holds p (digits ∷ s)
+digits_none p s [] h = at_end_lem p (digits ∷ s)
 digits_none p s (b ∷ bs) h = by_test (is_digit b)
     (λ e. absurd (let n : prefix_len is_digit (b ∷ bs) ≡ 1 + prefix_len is_digit bs = ap (λ (c : Bool). cond c (1 + prefix_len is_digit bs) 0) e in omega arith))
     (λ e. halts p (digits ∷ s) b bs (ap (λ (c : Bool). cond c (onto (more ∷ s)) stuck) e))

@@ -6,7 +6,7 @@ use Rattle.coverage.proofs.Bools.{by_test}
 use Rattle.lines.specs.Numerals.{is_digit}
 use Rattle.lines.specs.Pieces.{Piece, word, digits, more, number, others, name, text, closed, is_name_byte, Next, stuck, onto, after, complete, follow, stop}
 use Rattle.lines.specs.Grammar.{Made, done, word_byte, word_done, digit_first, digit_more, digits_done, number_minus, number_plain, others_blank, others_done, name_byte, name_done, text_byte, text_close, closed_done, closed_text}
-use Rattle.lines.proofs.Bytes.{at_byte, at_end_holds}
+use Rattle.lines.proofs.Bytes.{at_byte, at_end_lem}
 
 -- ---- what the reading goes on with can be put behind the byte
 
@@ -83,7 +83,7 @@ pub same_some : (p q : ℕ) → ◌≡◌ {A = Option ℕ} (Some p) (Some q) →
 same_some p q e = cc
 
 pub sound : (p : ℕ) (s : List Piece) (bs : List ℕ) → stop p s bs ≡ None → Made s bs
-sound p s [] e = by_test (complete s) (λ c. finish s c) (λ c. absurd (some_none p (sym (ap (λ (x : Bool). cond x None (Some p)) c) ∙ sym (at_end_holds p s) ∙ e)))
+sound p s [] e = by_test (complete s) (λ c. finish s c) (λ c. absurd (some_none p (sym (ap (λ (x : Bool). cond x None (Some p)) c) ∙ sym (at_end_lem p s) ∙ e)))
 sound p s (b ∷ bs) e = back s b bs (onward (after s b) (λ t k. sound (suc p) t bs k) (sym (at_byte p s b bs) ∙ e))
   where
     onward : (n : Next) → ((t : List Piece) → stop (suc p) t bs ≡ None → Made t bs) → follow (λ t. stop (suc p) t bs) p n ≡ None → After n bs
@@ -106,8 +106,8 @@ here p s bs q e =
 
 pub reached : (p : ℕ) (s : List Piece) (bs : List ℕ) (q : ℕ) → stop p s bs ≡ Some q → Reached p s bs q
 reached p s [] q e = by_test (complete s)
-    (λ c. absurd (none_some q (sym (ap (λ (x : Bool). cond x None (Some p)) c) ∙ sym (at_end_holds p s) ∙ e)))
-    (λ c. here p s [] q (same_some p q (sym (ap (λ (x : Bool). cond x None (Some p)) c) ∙ sym (at_end_holds p s) ∙ e)))
+    (λ c. absurd (none_some q (sym (ap (λ (x : Bool). cond x None (Some p)) c) ∙ sym (at_end_lem p s) ∙ e)))
+    (λ c. here p s [] q (same_some p q (sym (ap (λ (x : Bool). cond x None (Some p)) c) ∙ sym (at_end_lem p s) ∙ e)))
 reached p s (b ∷ bs) q e = onward (after s b) refl (λ t k. reached (suc p) t bs q k) (sym (at_byte p s b bs) ∙ e)
   where
     onward : (n : Next) → after s b ≡ n → ((t : List Piece) → stop (suc p) t bs ≡ Some q → Reached (suc p) t bs q) → follow (λ t. stop (suc p) t bs) p n ≡ Some q → Reached p s (b ∷ bs) q

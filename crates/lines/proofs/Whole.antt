@@ -6,7 +6,7 @@ use Rattle.coverage.proofs.Bools.{by_test, and_left, and_right, and_both}
 use Rattle.lines.specs.Numerals.{is_digit}
 use Rattle.lines.specs.Pieces.{Piece, word, digits, more, number, others, name, text, closed, is_name_byte, Next, stuck, onto, after, complete, follow, stop}
 use Rattle.lines.specs.Grammar.{Made, word_byte, word_done, digit_first, digit_more, digits_done, number_minus, number_plain, others_blank, others_done, name_byte, name_done, text_byte, text_close, closed_done, closed_text}
-use Rattle.lines.proofs.Bytes.{at_byte, at_end_holds}
+use Rattle.lines.proofs.Bytes.{at_byte, at_end_lem}
 use Rattle.lines.proofs.Words.{digit_apart}
 
 -- pieces that do not begin with a byte of a sort
@@ -106,7 +106,7 @@ ended (closed ∷ s) (closed_done m) = ended s m
 ended (closed ∷ s) (closed_text m) = elim m [ ]
 
 pub accepts : (p : ℕ) (s : List Piece) (bs : List ℕ) → Made s bs → clear s ≡ true → stop p s bs ≡ None
-accepts p s [] m k = at_end_holds p s ∙ ap (λ (x : Bool). cond x None (Some p)) (ended s m)
+accepts p s [] m k = at_end_lem p s ∙ ap (λ (x : Bool). cond x None (Some p)) (ended s m)
 accepts p s (b ∷ bs) m k = at_byte p s b bs ∙ onward (after s b) (λ t n j. accepts (suc p) t bs n j) (forth s b bs m k)
   where
     onward : (n : Next) → ((t : List Piece) → Made t bs → clear t ≡ true → stop (suc p) t bs ≡ None) → Onward n bs → follow (λ t. stop (suc p) t bs) p n ≡ None

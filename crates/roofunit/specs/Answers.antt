@@ -7,7 +7,7 @@ use Rattle.lines.specs.declared.command.Command.{Command}
 use Rattle.lines.specs.declared.command.Command.TheVariants.{Grid, Strip, Look, Show, Check, Run, Help}
 use Rattle.lines.specs.Numerals.{cells_of}
 use Rattle.lines.specs.Grammar.{StopsAt}
-use Rattle.written.specs.Format.{not_aform}
+use Rattle.written.specs.Format.{not_a_form}
 use Rattle.lines.specs.Says.{Says}
 use Rattle.roofunit.specs.declared.reply.Reply.{Reply}
 use Rattle.roofunit.specs.Replies.{Plain, StripTold, LookTold, ShowTold}
@@ -39,7 +39,7 @@ Served m c m' (Err e) = (m' ≡ m) ⊎ (m' ≡ after_command m c)
 
 -- a line that is no form is told where it stops being one, and leaves the shelf
 abbrev pub Stopped : List Coverage → List ℕ → List Coverage → Result Reply AllocError → Type 0
-Stopped m line m' (Ok r) = (p : ℕ) × StopsAt line p × (m' ≡ m) × Plain (not_aform p) r
+Stopped m line m' (Ok r) = (p : ℕ) × StopsAt line p × (m' ≡ m) × Plain (not_a_form p) r
 Stopped m line m' (Err e) = m' ≡ m
 
 -- a line is answered as the command that it says, or as no form

@@ -1,5 +1,5 @@
 // Replies: the line that is printed, and the number of the refusal that it tells, if any.
-ghost use Rattle.written.specs.Format.{not_aform};
+ghost use Rattle.written.specs.Format.{not_a_form};
 ghost use Rattle.roofunit.specs.Replies.{GridTold, LookTold, Plain, Refuses, StripTold};
 ghost use Rattle.shelf.specs.Faults.{shelf_refusal};
 ghost use Rattle.std.specs.Prelude.{◌≡◌, IfOk, string_bytes};
@@ -76,7 +76,7 @@ pub fn look_reply(
 
 /// A line that is no form.
 pub fn stop_reply(heap: Global, place: usize) -> Result<Reply, AllocError>
-    ensures { IfOk result (Plain (not_aform place)) }
+    ensures { IfOk result (Plain (not_a_form place)) }
 {
     Ok(Reply {
         line: stop_line(heap, place)?,

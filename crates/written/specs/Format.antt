@@ -37,5 +37,5 @@ abbrev pub refusal_line : Refusal → List ℕ
 refusal_line r = codes "(refused " ++ (layer_word r.layer ++ (codes " " ++ (decimal r.number ++ (codes " " ++ (returned_words r.returned ++ codes ")")))))
 
 -- a line that is no form, by the place where it stops being one: (not a form: byte 7)
-abbrev pub not_aform : ℕ → List ℕ
-not_aform p = codes "(not a form: byte " ++ (decimal p ++ codes ")")
+abbrev pub not_a_form : ℕ → List ℕ
+not_a_form p = codes "(not a form: byte " ++ (decimal p ++ codes ")")

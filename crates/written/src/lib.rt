@@ -1,7 +1,7 @@
 // The lines that are printed.
 #![tactic(auto)]
 
-ghost use Rattle.written.specs.Format.{cell_line, grid_line, layer_word, not_aform, refusal_line, returned_words, strip_line};
+ghost use Rattle.written.specs.Format.{cell_line, grid_line, layer_word, not_a_form, refusal_line, returned_words, strip_line};
 ghost use Rattle.std.specs.Prelude.{◌≡◌, IfOk, string_bytes};
 
 use coverage::{Layer, Refusal, Returned};
@@ -65,7 +65,7 @@ pub fn refusal_line(heap: Global, refusal: Refusal) -> Result<String, AllocError
 
 /// `(not a form: byte 7)`: the place where a line stops being a form.
 pub fn stop_line(heap: Global, place: usize) -> Result<String, AllocError>
-    ensures { IfOk result (λ s. string_bytes s ≡ not_aform place) }
+    ensures { IfOk result (λ s. string_bytes s ≡ not_a_form place) }
 {
     format!(in heap; "(not a form: byte {place})")
 }
