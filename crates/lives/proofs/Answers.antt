@@ -13,7 +13,7 @@ use Rattle.shelf.specs.Laws.{Lawful}
 use Rattle.syntax.specs.Tree.{Query}
 use Rattle.language.specs.Typing.{Described}
 use Rattle.language.specs.Queries.{Announced, answer, bind_about, bind_looks, cell_at, checked, query_domain}
-use Rattle.language.proofs.Theorems.{query_accepted, values_lie_in_their_span, reads_stay_within_the_promise_lem, known_cells_never_change_holds, answers_depend_only_on_cells_inside_lem}
+use Rattle.language.proofs.Theorems.{query_accepted, values_lie_in_their_span, reads_stay_within_the_promise_lem, known_cells_never_change_lem, answers_depend_only_on_cells_inside_lem}
 use Rattle.language.proofs.Shelves.{bind_sound, bind_alike}
 use Rattle.language.proofs.Answered.{answers_hold_their_cells}
 use Rattle.lives.specs.declared.cell.Cell.{Cell}
@@ -145,7 +145,7 @@ module _ (m later : List Coverage) (law : Lawful m) (grown : Grows m later) (c�
       let was : value_from m old.query x ≡ Some v = entry_known (value_from m old.query x) v (sym (old.each_cell_as_defined x inside) ∙ is) in
       let cell : cell_at (describes m) (looks m) old.query k ≡ Some v = sym (value_is m law old.query c.announced now_accepted x i) ∙ was in
       let stays : cell_at (describes m) (looks later) old.query k ≡ Some v =
-      known_cells_never_change_holds (describes m) (looks m) (looks later) (sound m law) grown.known old.query c.announced now_accepted k v cell in
+      known_cells_never_change_lem (describes m) (looks m) (looks later) (sound m law) grown.known old.query c.announced now_accepted k v cell in
       let there : cell_at (describes later) (looks later) new.query k ≡ Some v =
       ap (λ (d : Described). cell_at d (looks later) new.query k) grown.described ∙ (ap (λ (q : Query). cell_at (describes m) (looks later) q k) (sym same_query) ∙ stays) in
       (i, new.each_cell_as_defined x i ∙ ap (λ (o : Option ℤ). Some (entry o)) (value_is later grown.lawful new.query c.announced new.accepted_for_this_shelf x i ∙ there))

@@ -89,7 +89,7 @@ every_life_keeps_its_promises_lem first on past now life = record {
   each_run_keeps_its_promises = λ p before after r then h. record {
     standing_query_is_answered = standing_answered first on past now life p before after r then h;
     accepted_run_had_a_standing_query = had_standing first on past now life p before after r then h;
-    known_cells_never_change_holds = never_changes first on past now life p before after r then h;
+    known_cells_never_change = never_changes first on past now life p before after r then h;
   };
   refused_call_changes_nothing = λ call then h e. refused_changes_nothing now then call h e;
 }

@@ -106,7 +106,7 @@ pub record RunKeepsItsPromises (past : List Call) (m : List Coverage) (p : ℕ) 
   pub accepted_run_had_a_standing_query : (n : Answered) → r ≡ Ok n → (c : Checked) × Stands p c past × LongEnough c before × RightlyAnswered m c before n after
   -- a cell answered with a value is answered with that value, at the same coordinates, in each later accepted
   -- run of a text equal byte for byte, in whichever plan
-  pub known_cells_never_change_holds : (n : Answered) → r ≡ Ok n → (c : Checked) → Stands p c past → (x : Coordinates) (v : ℤ) → AnsweredEarlier past c.text x v →
+  pub known_cells_never_change : (n : Answered) → r ≡ Ok n → (c : Checked) → Stands p c past → (x : Coordinates) (v : ℤ) → AnsweredEarlier past c.text x v →
       Inside c.announced.extents x × (entry_at c.announced.extents after x ≡ Some (entry (Some v)))
 
 -- ---- every step
