@@ -1,3 +1,4 @@
+pub mod Entries
 pub mod Axes
 pub mod Kinds
 pub mod Strips
