@@ -5,25 +5,18 @@ use Rattle.coverage.specs.declared.axis.Axis.TheVariants.{X}
 use Rattle.coverage.specs.declared.range.Range.{Range}
 use Rattle.coverage.specs.Axes.{axes, extents}
 use Rattle.coverage.specs.Limits.{axis_bounded}
-use Rattle.shelf_laws.specs.Ramp.{gradient, is_mild, is_near, least, most, rises, sum_over}
+use Rattle.shelf_laws.specs.Ramp.{gradient, is_mild, least, most, rises}
 use Rattle.shelf_laws.proofs.Products.{Small, fits_64}
-use Rattle.shelf_laws.proofs.Ramps.{Summed, each_bounded, each_mild, rises_small, sum_ends, sum_starts, sum_turn}
-use Rattle.shelf_laws.proofs.ramp.ramp_span.Goals as goal
-
-pub loop-axis-init : goal.loop-axis-init
-loop-axis-init c =
-    let d = extents c.args.domain in
-    let g = gradient c.args.slopes in
-    let near = ap is_near (to_z-of_z w64 c.args.offset c.ranges.offset) ∙ c.requires.near in
-    (sum_starts (least d g) _ axes near, sum_starts (most d g) _ axes near)
+use Rattle.shelf_laws.proofs.Ramps.{Summed, each_bounded, each_mild, rises_small, sum_turn}
+use Rattle.shelf_laws.proofs.ramp.Plane.span.Goals as goal
 
 pub rises-rises-requires : goal.rises-rises-requires
 rises-rises-requires c =
     let a = get_or axes c.loop-axis.axis-index X in
     let s = to_z-of_z w64 c.on-in-loop-axis.result (record { sfits = c.on-in-loop-axis.type_inv }) ∙ c.on-in-loop-axis.ensures in
     record {
-      bounded = ap axis_bounded c.on.ensures ∙ each_bounded (extents c.args.domain) c.requires.bounded a;
-      mild = ap is_mild s ∙ each_mild (gradient c.args.slopes) c.requires.mild a;
+      bounded = ap axis_bounded c.on.ensures ∙ each_bounded (extents c.args.domain) c.requires a;
+      mild = ap is_mild s ∙ each_mild (gradient c.args.self.slopes) c.args.self.mild a;
     }
 
 -- one end of the span: what the loop has is small, so that it is the same in 64 bits
@@ -35,45 +28,35 @@ end_turn f offset i v w k h e s =
 pub overflow_add-span : goal.overflow_add-span
 overflow_add-span c =
     let d = extents c.args.domain in
-    let g = gradient c.args.slopes in
+    let g = gradient c.args.self.slopes in
     let a = get_or axes c.loop-axis.axis-index X in
     let s = to_z-of_z w64 c.on-in-loop-axis.result (record { sfits = c.on-in-loop-axis.type_inv }) ∙ c.on-in-loop-axis.ensures in
     let w : c.rises-rises.result ≡ rises (d a) (g a) = c.rises-rises.ensures ∙ ap₂ rises c.on.ensures s in
-    let small = rises_small (d a) (g a) (each_bounded d c.requires.bounded a) (each_mild g c.requires.mild a) in
+    let small = rises_small (d a) (g a) (each_bounded d c.requires a) (each_mild g c.args.self.mild a) in
     (end_turn (least d g) _ c.loop-axis.axis-index c.loop-axis.span.lo c.rises-rises.result.lo c.loop-axis.invariant.0 c.loop-axis-test.true
     (ap (λ (r : Range). r.lo) w) (subst (λ (r : Range). Small 100000000 r.lo) (sym w) small.0)).0
 
 pub overflow_add-span-in-loop-axis : goal.overflow_add-span-in-loop-axis
 overflow_add-span-in-loop-axis c =
     let d = extents c.args.domain in
-    let g = gradient c.args.slopes in
+    let g = gradient c.args.self.slopes in
     let a = get_or axes c.loop-axis.axis-index X in
     let s = to_z-of_z w64 c.on-in-loop-axis.result (record { sfits = c.on-in-loop-axis.type_inv }) ∙ c.on-in-loop-axis.ensures in
     let w : c.rises-rises.result ≡ rises (d a) (g a) = c.rises-rises.ensures ∙ ap₂ rises c.on.ensures s in
-    let small = rises_small (d a) (g a) (each_bounded d c.requires.bounded a) (each_mild g c.requires.mild a) in
+    let small = rises_small (d a) (g a) (each_bounded d c.requires a) (each_mild g c.args.self.mild a) in
     (end_turn (most d g) _ c.loop-axis.axis-index c.loop-axis.span.hi c.rises-rises.result.hi c.loop-axis.invariant.1 c.loop-axis-test.true
     (ap (λ (r : Range). r.hi) w) (subst (λ (r : Range). Small 100000000 r.hi) (sym w) small.1)).0
 
 pub loop-axis-preserved : goal.loop-axis-preserved
 loop-axis-preserved c =
     let d = extents c.args.domain in
-    let g = gradient c.args.slopes in
+    let g = gradient c.args.self.slopes in
     let a = get_or axes c.loop-axis.axis-index X in
     let s = to_z-of_z w64 c.on-in-loop-axis.result (record { sfits = c.on-in-loop-axis.type_inv }) ∙ c.on-in-loop-axis.ensures in
     let w : c.rises-rises.result ≡ rises (d a) (g a) = c.rises-rises.ensures ∙ ap₂ rises c.on.ensures s in
-    let small = rises_small (d a) (g a) (each_bounded d c.requires.bounded a) (each_mild g c.requires.mild a) in (
+    let small = rises_small (d a) (g a) (each_bounded d c.requires a) (each_mild g c.args.self.mild a) in (
       (end_turn (least d g) _ c.loop-axis.axis-index c.loop-axis.span.lo c.rises-rises.result.lo c.loop-axis.invariant.0 c.loop-axis-test.true
           (ap (λ (r : Range). r.lo) w) (subst (λ (r : Range). Small 100000000 r.lo) (sym w) small.0)).1,
       (end_turn (most d g) _ c.loop-axis.axis-index c.loop-axis.span.hi c.rises-rises.result.hi c.loop-axis.invariant.1 c.loop-axis-test.true
           (ap (λ (r : Range). r.hi) w) (subst (λ (r : Range). Small 100000000 r.hi) (sym w) small.1)).1,
     )
-
-pub returns : goal.returns
-returns c =
-    let d = extents c.args.domain in
-    let g = gradient c.args.slopes in
-    let off = to_z-of_z w64 c.args.offset c.ranges.offset in
-    let make : ℤ → ℤ → Range = λ x y. record { lo = x; hi = y } in
-    ap₂ make
-    (sum_ends (least d g) _ axes c.loop-axis.axis-index _ c.loop-axis.invariant.0 (omega arith) ∙ ap (λ o. o +ℤ sum_over (least d g) axes) off)
-    (sum_ends (most d g) _ axes c.loop-axis.axis-index _ c.loop-axis.invariant.1 (omega arith) ∙ ap (λ o. o +ℤ sum_over (most d g) axes) off)
