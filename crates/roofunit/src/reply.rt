@@ -36,7 +36,7 @@ pub fn grid_reply(heap: Global, made: Result<(), MakingFault>) -> Result<Reply, 
             line: grid_line(heap, 0)?,
             refused: None,
         }),
-        Err(fault) => refused(heap, fault.refusal()),
+        Err(fault) => refused(heap, fault.into()),
     }
 }
 
@@ -54,7 +54,7 @@ pub fn strip_reply(
             line: strip_line(heap, coverage, strip)?,
             refused: None,
         }),
-        Err(fault) => refused(heap, fault.refusal()),
+        Err(fault) => refused(heap, fault.into()),
     }
 }
 
@@ -70,7 +70,7 @@ pub fn look_reply(
             line: cell_line(heap, cell)?,
             refused: None,
         }),
-        Err(fault) => refused(heap, fault.refusal()),
+        Err(fault) => refused(heap, fault.into()),
     }
 }
 
@@ -108,5 +108,5 @@ pub fn picture_reply(drawn: String) -> Reply
 pub fn fault_reply(heap: Global, fault: ShelfFault) -> Result<Reply, AllocError>
     ensures { IfOk result (Refuses (shelf_refusal fault)) }
 {
-    refused(heap, fault.refusal())
+    refused(heap, fault.into())
 }
