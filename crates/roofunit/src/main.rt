@@ -11,12 +11,11 @@ use std::alloc::Global;
 use std::io;
 use std::io::{BufRead, BufReader, Split, Stdin};
 
+pub mod fault;
 pub mod picture;
-pub mod reasons;
 pub mod reply;
 pub mod serve;
 
-use crate::reasons::reason;
 use crate::reply::{Reply, grid_reply};
 use crate::serve::answer;
 
@@ -31,7 +30,7 @@ fn tell(rt: &HostRuntime, reply: Reply) -> io::Result<()> {
     let Reply { line, refused } = reply;
     rt.println(line)?;
     match refused {
-        Some(number) => rt.eprintln(reason(number)),
+        Some(fault) => rt.eprintln(fault),
         None => Ok(()),
     }
 }
