@@ -3,7 +3,7 @@ use shelf::{MakingFault, ShelfFault};
 use std::fmt;
 
 /// Why a line is refused.
-#[derive(Clone, Copy, Debug, PartialEq, Eq)]
+#[derive(Clone, Copy, Debug)]
 pub enum Fault {
     Making(MakingFault),
     Shelf(ShelfFault),
