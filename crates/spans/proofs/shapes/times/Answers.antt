@@ -1,25 +1,16 @@
-use Rattle.std.proofs.Common.{◌≡◌, pos, arith, w64, SFits, to_z, rules}
-use Rattle.std.proofs.lemmas.Int.{to_z-of_z, to_z_pos}
-use Rattle.spans.proofs.Fitting.{low_small, high_small, times_fits, times_made}
+use Rattle.std.proofs.Common.{pos, ◌*ℤ◌, ◌≡◌, arith, to_z, w64, SFits, rules, lit<}
+use Rattle.std.proofs.lemmas.Int.{ints, fits_signed_mul, to_z-of_z, to_z_pos}
+use Rattle.language.specs.Limits.{most_cells, widest}
 use Rattle.spans.proofs.shapes.times.Goals as goal
-
-pub overflow_mul-result : goal.overflow_mul-result
-overflow_mul-result c =
-    let f : SFits w64 c.args.a.0 = search rules in
-    let k : to_z w64 c.args.n ≡ pos c.args.n = to_z_pos w64 c.args.n (omega (arith, c.requires.few)) in
-    rw (k, to_z-of_z w64 _ f) (times_fits c.args.n c.args.a.0 c.requires.few (low_small c.args.a c.requires.bounded))
-
-pub overflow_mul-result-2 : goal.overflow_mul-result-2
-overflow_mul-result-2 c =
-    let f : SFits w64 c.args.a.1 = search rules in
-    let k : to_z w64 c.args.n ≡ pos c.args.n = to_z_pos w64 c.args.n (omega (arith, c.requires.few)) in
-    rw (k, to_z-of_z w64 _ f) (times_fits c.args.n c.args.a.1 c.requires.few (high_small c.args.a c.requires.bounded))
 
 pub returns : goal.returns
 returns c =
-    let f0 : SFits w64 c.args.a.0 = search rules in
-    let f1 : SFits w64 c.args.a.1 = search rules in
-    let k : to_z w64 c.args.n ≡ pos c.args.n = to_z_pos w64 c.args.n (omega (arith, c.requires.few)) in
-    let t0 = times_fits c.args.n c.args.a.0 c.requires.few (low_small c.args.a c.requires.bounded) in
-    let t1 = times_fits c.args.n c.args.a.1 c.requires.few (high_small c.args.a c.requires.bounded) in
-    times_made c.args.n c.args.a _ _ (rw (k, to_z-of_z w64 _ f0) (to_z-of_z w64 _ t0)) (rw (k, to_z-of_z w64 _ f1) (to_z-of_z w64 _ t1))
+    let n = c.args.n in
+    let l = c.args.a.range.lo in
+    let h = c.args.a.range.hi in
+    let e : to_z w64 n ≡ pos n = to_z_pos w64 n (omega (arith, c.requires.few)) in
+    let f : SFits w64 l = search rules in
+    let g : SFits w64 h = search rules in
+    let p : SFits w64 (pos n *ℤ l) = fits_signed_mul w64 (pos n) l most_cells widest c.requires.few (omega (arith, ints)) (lit< tt) in
+    let q : SFits w64 (pos n *ℤ h) = fits_signed_mul w64 (pos n) h most_cells widest c.requires.few (omega (arith, ints)) (lit< tt) in
+    simp (to_z-of_z, e)
