@@ -3,3 +3,4 @@ pub mod Axes
 pub mod Kinds
 pub mod Strips
 pub mod Limits
+pub mod Written

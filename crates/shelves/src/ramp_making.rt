@@ -9,8 +9,8 @@ use crate::single::asked;
 use coverage::name::is_name;
 use coverage::{Domain, Kind, TOO_MANY};
 use shelf::MakingFault;
-use shelf_laws::{Slopes, are_mild};
 use shelf_laws::ramp::{is_near, ramp_span};
+use shelf_laws::{Slopes, are_mild};
 
 /// The call before the making of a ramp: why it is refused, or nothing.
 pub fn check_ramp(
