@@ -16,7 +16,7 @@ use Rattle.shelf.proofs.Settled.{settled_inside, settled_number}
 use Rattle.shelf_laws.specs.Making.{grid_fault}
 use Rattle.shelf_laws.specs.Single.{AskedFor, fixed_ok}
 use Rattle.shelf_laws.specs.ByteGrid.{byte_cells, byte_grid_fault, byte_keeps, byte_kind, byte_value, takes_bytes}
-use Rattle.shelf_laws.proofs.Makings.{Allowed, allowed_describable, grid_allowed}
+use Rattle.shelf_laws.proofs.Makings.{Allowed, allowed_describable}
 use Rattle.shelf_laws.proofs.Singles.{fixed_by, fixed_lawful}
 
 within_byte : (k : Kind) (b : ℕ) → (le_z (low k) (pos 0) && le_z (pos 254) (high k)) ≡ true → Within k (byte_value b)

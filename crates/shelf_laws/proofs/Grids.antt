@@ -1,5 +1,5 @@
 -- The received grid: its memory stays lawful, its meaning is lawful, and a row written is a strip put.
-use Rattle.std.proofs.Common.{◌≡◌, ℕ, ◌+◌, ◌*◌, ◌/◌, ◌<◌, ◌≤◌, Bool, true, false, cond, not, ◌||◌, ltb, zero, suc, Decides, List, [], ◌∷◌, length, get_or, replicate, ℤ, pos, is_some, Some, None, Ok, Err, Option, Result, sym, refl, ap, ◌∙◌, subst, ap₂, add-zero, mul_comm, add-mul, one-mul, arith, ltb-false, ltb-true, eq-eqb, eqb-true}
+use Rattle.std.proofs.Common.{◌≡◌, ℕ, ◌+◌, ◌*◌, ◌/◌, ◌<◌, ◌≤◌, Bool, true, false, cond, not, ◌||◌, ltb, zero, suc, Decides, List, [], ◌∷◌, length, get_or, replicate, ℤ, pos, is_some, Some, None, Ok, Option, Result, sym, refl, ap, ◌∙◌, subst, ap₂, add-zero, mul_comm, add-mul, one-mul, arith, ltb-false, ltb-true, eq-eqb, eqb-true}
 use mathlib.Core.Path.{fun_ext}
 use borrow.Author.Tests.{both_ways, clash}
 use lib.ListN.{length-replicate}
@@ -338,14 +338,14 @@ pub grid_made : (name : List ℕ) (d : Domain) (k : Kind) (before after : List �
 grid_made name d k before after r o h e w = go (grid_fault name (extents d) k (length before)) refl h
   where
     go : (f : Option MakingFault) → grid_fault name (extents d) k (length before) ≡ f → Described f name d k true r → (option_map_or (grid_keeps after) o true ≡ true) × MadeGrid f name d k (grid_meaning o after) before after
-    go (Some f) is h =
+    go (Some f) q h =
         let none : o ≡ None = e ∙ ap result_ok h in
         (ap (λ x. option_map_or (grid_keeps after) x true) none, (ap (λ x. grid_meaning x after) none, w ∙ ap (λ x. cond (is_some x) (replicate (length before) null) before) none))
-    go None is h =
+    go None q h =
         let a = h.0 in
         let s = h.2 in
         let some : o ≡ Some a = e ∙ ap result_ok h.1 in
-        let allowed = grid_allowed name (extents d) k (length before) is in
+        let allowed = grid_allowed name (extents d) k (length before) q in
         let describes = allowed_describable name d k (length before) a allowed s.named s.domained s.kinded in
         let blank : after ≡ replicate (cells (extents a.domain)) null =
         w ∙ (ap (λ x. cond (is_some x) (replicate (length before) null) before) some ∙ ap (λ n. replicate n null) (allowed.long ∙ sym (ap (λ x. cells (extents x)) s.domained))) in

@@ -38,19 +38,12 @@ fn print_row<S: Shelf>(
 
 /// Prints a coverage at its lowest t, a row a line, the lowest y first.
 pub fn picture<S: Shelf>(rt: &HostRuntime, shelf: &S, coverage: usize) -> io::Result<()> {
-    match shelf.describe(coverage) {
-        Ok(about) => {
-            for k in 0..places(about.domain.y) {
-                print_row(
-                    rt,
-                    shelf,
-                    coverage,
-                    about.domain,
-                    coordinate_at(about.domain.y, k),
-                )?;
-            }
-            Ok(())
-        }
-        Err(_) => println!(rt; "nothing"),
+    let Ok(about) = shelf.describe(coverage) else {
+        return println!(rt; "nothing");
+    };
+    for k in 0..places(about.domain.y) {
+        let y = coordinate_at(about.domain.y, k);
+        print_row(rt, shelf, coverage, about.domain, y)?;
     }
+    Ok(())
 }

@@ -1,6 +1,7 @@
+use coverage::Refusal;
 use shelf::{ReceivingShelf, Shelf};
 use std::io;
-use written::{refusal_line, strip_line};
+use written::strip_line;
 
 /// Sends a strip, and prints what is answered.
 pub fn send<S: ReceivingShelf>(
@@ -10,9 +11,8 @@ pub fn send<S: ReceivingShelf>(
     strip: usize,
     cells: &[i32],
 ) -> io::Result<()> {
-    let heap = rt.alloc();
     match shelf.strip(coverage, strip, cells) {
-        Ok(()) => rt.println(strip_line(heap, coverage, strip)?),
-        Err(fault) => rt.println(refusal_line(heap, fault.into())?),
+        Ok(()) => rt.println(strip_line(rt.alloc(), coverage, strip)?),
+        Err(fault) => println!(rt; "{}", Refusal::from(fault)),
     }
 }

@@ -1,4 +1,4 @@
-use crate::told::{looked, stripped};
+use crate::told::told;
 use coverage::{Domain, Kind, Point, Range};
 use shelf::{ReceivingShelf, Shelf};
 use shelf_laws::{Cut, Slopes};
@@ -23,14 +23,14 @@ fn rows(lo: i64, hi: i64) -> Cut {
 /// Strips 0 and 1 of the upper window are the rows y 2 and y 3 of the roof.
 fn through_upper<S: ReceivingShelf>(rt: &impl Abort, both: &mut S) {
     let mut upper = make_window(both, 1, rows(2, 3));
-    assert_eq!(rt; stripped(upper.strip(0, 1, &[30, 31])), 0);
-    assert_eq!(rt; stripped(upper.strip(0, 1, &[30, 31])), 19);
-    assert_eq!(rt; stripped(upper.strip(0, 2, &[40, 41])), 17);
+    assert_eq!(rt; told(upper.strip(0, 1, &[30, 31])), Ok(()));
+    assert_eq!(rt; told(upper.strip(0, 1, &[30, 31])), Err(19));
+    assert_eq!(rt; told(upper.strip(0, 2, &[40, 41])), Err(17));
     assert_eq!(rt;
-        looked(upper.look(0, Point { x: 1, y: 3, t: 0 })),
+        told(upper.look(0, Point { x: 1, y: 3, t: 0 })),
         Ok(Some(31))
     );
-    assert_eq!(rt; looked(upper.look(0, Point { x: 1, y: 1, t: 0 })), Err(15));
+    assert_eq!(rt; told(upper.look(0, Point { x: 1, y: 1, t: 0 })), Err(15));
 }
 
 /// The slope's coverage comes before the lower window's.
@@ -44,8 +44,8 @@ fn through_join<A: ReceivingShelf, B: ReceivingShelf>(
         second: lower,
     };
     through_upper(rt, &mut both);
-    assert_eq!(rt; stripped(both.strip(0, 0, &[1, 2])), 16);
-    assert_eq!(rt; looked(both.look(1, Point { x: 0, y: 2, t: 0 })), Ok(None));
+    assert_eq!(rt; told(both.strip(0, 0, &[1, 2])), Err(16));
+    assert_eq!(rt; told(both.look(1, Point { x: 0, y: 2, t: 0 })), Ok(None));
 }
 
 fn through_lower<A: ReceivingShelf, B: ReceivingShelf>(
@@ -65,8 +65,8 @@ fn strip_through_a_stack_fills_the_row_that_its_number_names(rt: HostRuntime) {
     let mut slope = make_ramp(b"slope", ROOF, Slopes { x: 1, y: 10, t: 0 }, 5);
     through_lower(&rt, &mut slope, &mut roof);
     assert_eq!(rt;
-        looked(roof.look(0, Point { x: 0, y: 3, t: 0 })),
+        told(roof.look(0, Point { x: 0, y: 3, t: 0 })),
         Ok(Some(30))
     );
-    assert_eq!(rt; looked(roof.look(0, Point { x: 0, y: 2, t: 0 })), Ok(None));
+    assert_eq!(rt; told(roof.look(0, Point { x: 0, y: 2, t: 0 })), Ok(None));
 }

@@ -4,18 +4,15 @@ use coverage::{Domain, Kind, Range};
 use shelves::check_grid;
 use std::io;
 
-/// What is tried, and the grid that is asked for: its name, its axes x, y and t, its kind, and the length
-/// of its memory.
+/// What is tried, and the grid that is asked for, with the length of its memory.
 #[derive(Clone, Copy)]
-pub struct Asked(
-    pub &'static str,
-    pub &'static [u8],
-    pub Option<Range>,
-    pub Option<Range>,
-    pub Option<Range>,
-    pub Kind,
-    pub usize,
-);
+pub struct Asked {
+    pub what: &'static str,
+    pub name: &'static [u8],
+    pub domain: Domain,
+    pub kind: Kind,
+    pub length: usize,
+}
 
 /// An axis of one place.
 pub const ONE: Option<Range> = Some(Range { lo: 0, hi: 0 });
@@ -27,12 +24,23 @@ pub const CELL: Domain = Domain {
     t: None,
 };
 
+/// A grid of one truth, which is allowed; a row of a table tells what is asked for otherwise.
+pub const PLAIN: Asked = Asked {
+    what: "plain",
+    name: b"roof",
+    domain: CELL,
+    kind: Kind::Truth,
+    length: 1,
+};
+
 /// Asks for the grids of a table in turn, a line for each.
 pub fn ask_all(rt: &HostRuntime, table: &[Asked]) -> io::Result<()> {
     for asked in table {
-        let Asked(what, name, x, y, t, kind, length) = *asked;
-        print!(rt; "{what}: ")?;
-        tell_making(rt, check_grid(name, Domain { x, y, t }, kind, length))?;
+        print!(rt; "{}: ", asked.what)?;
+        tell_making(
+            rt,
+            check_grid(asked.name, asked.domain, asked.kind, asked.length),
+        )?;
     }
     Ok(())
 }

@@ -12,7 +12,7 @@ pub enum Call<'c> {
     Describe(usize),
     /// Of a name.
     Find(&'c [u8]),
-    /// At a coverage, and a point's x, y and t.
+    /// At a coverage, and a point's x, y and t: with a `Point`'s names a case would take three lines.
     Look(usize, i64, i64, i64),
     /// To a coverage, of a number, with its cells.
     Strip(usize, usize, &'c [i32]),

@@ -7,9 +7,14 @@ use shelf_laws::Cut;
 use shelves::{check_window, make_grid};
 use std::io;
 
-/// What is tried, and the window that is asked for: its coverage, and its lowest and highest y and t.
+/// What is tried, and the window that is asked for.
 #[derive(Clone, Copy)]
-struct Opening(&'static str, usize, (i64, i64), (i64, i64));
+struct Opening {
+    what: &'static str,
+    coverage: usize,
+    y: Range,
+    t: Range,
+}
 
 /// Four rows at each of two times.
 const ROWS: Domain = Domain {
@@ -18,34 +23,89 @@ const ROWS: Domain = Domain {
     t: Some(Range { lo: 5, hi: 6 }),
 };
 
+/// A window on all rows, which is allowed; a row of a table tells what is asked for otherwise.
+const WHOLE: Opening = Opening {
+    what: "the whole",
+    coverage: 0,
+    y: Range { lo: 0, hi: 3 },
+    t: Range { lo: 5, hi: 6 },
+};
+
 /// Windows on y 0 to 3 and t 5 to 6.
 const ON_ROWS: [Opening; 11] = [
-    Opening("the whole", 0, (0, 3), (5, 6)),
-    Opening("one row", 0, (3, 3), (6, 6)),
-    Opening("y too low", 0, (-1, 3), (5, 6)),
-    Opening("y too high", 0, (0, 4), (5, 6)),
-    Opening("y upside down", 0, (2, 1), (5, 6)),
-    Opening("t too low", 0, (0, 3), (4, 6)),
-    Opening("t too high", 0, (0, 3), (5, 7)),
-    Opening("t upside down", 0, (0, 3), (6, 5)),
-    Opening("y and t exchanged", 0, (5, 6), (0, 3)),
-    Opening("coverage 1", 1, (0, 3), (5, 6)),
-    Opening("coverage 1, y too high", 1, (0, 4), (5, 6)),
+    WHOLE,
+    Opening {
+        what: "one row",
+        y: Range { lo: 3, hi: 3 },
+        t: Range { lo: 6, hi: 6 },
+        ..WHOLE
+    },
+    Opening {
+        what: "y too low",
+        y: Range { lo: -1, hi: 3 },
+        ..WHOLE
+    },
+    Opening {
+        what: "y too high",
+        y: Range { lo: 0, hi: 4 },
+        ..WHOLE
+    },
+    Opening {
+        what: "y upside down",
+        y: Range { lo: 2, hi: 1 },
+        ..WHOLE
+    },
+    Opening {
+        what: "t too low",
+        t: Range { lo: 4, hi: 6 },
+        ..WHOLE
+    },
+    Opening {
+        what: "t too high",
+        t: Range { lo: 5, hi: 7 },
+        ..WHOLE
+    },
+    Opening {
+        what: "t upside down",
+        t: Range { lo: 6, hi: 5 },
+        ..WHOLE
+    },
+    Opening {
+        what: "y and t exchanged",
+        y: Range { lo: 5, hi: 6 },
+        t: Range { lo: 0, hi: 3 },
+        ..WHOLE
+    },
+    Opening {
+        what: "coverage 1",
+        coverage: 1,
+        ..WHOLE
+    },
+    Opening {
+        what: "coverage 1, y too high",
+        coverage: 1,
+        y: Range { lo: 0, hi: 4 },
+        ..WHOLE
+    },
 ];
 
 /// A cut is ignored where its axis is absent.
-const ON_A_CELL: [Opening; 1] = [Opening("y and t absent, upside down", 0, (9, -9), (8, -8))];
+const ON_A_CELL: [Opening; 1] = [Opening {
+    what: "y and t absent, upside down",
+    y: Range { lo: 9, hi: -9 },
+    t: Range { lo: 8, hi: -8 },
+    ..WHOLE
+}];
 
 /// Asks for the windows of a table in turn, a line for each.
 fn open_all<S: Shelf>(rt: &HostRuntime, below: &S, table: &[Opening]) -> io::Result<()> {
     for opening in table {
-        let Opening(what, coverage, y, t) = *opening;
         let cut = Cut {
-            y: Range { lo: y.0, hi: y.1 },
-            t: Range { lo: t.0, hi: t.1 },
+            y: opening.y,
+            t: opening.t,
         };
-        print!(rt; "{what}: ")?;
-        tell_making(rt, check_window(below, coverage, cut))?;
+        print!(rt; "{}: ", opening.what)?;
+        tell_making(rt, check_window(below, opening.coverage, cut))?;
     }
     Ok(())
 }

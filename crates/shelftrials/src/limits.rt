@@ -1,6 +1,6 @@
 // Limits of coordinates, spans and cells.
-use crate::asked::{Asked, ONE, ask_all};
-use coverage::{Kind, Range};
+use crate::asked::{Asked, CELL, ONE, PLAIN, ask_all};
+use coverage::{Domain, Kind, Range};
 use std::io;
 
 const LOWEST: Option<Range> = Some(Range {
@@ -27,142 +27,159 @@ const TURNED: Option<Range> = Some(Range { lo: 1, hi: 0 });
 
 /// Coordinates reach from -1,000,000 to 1,000,000, the lowest not above the highest; x is there.
 const COORDINATES: [Asked; 17] = [
-    Asked(
-        "x at the lowest",
-        b"roof",
-        LOWEST,
-        None,
-        None,
-        Kind::Truth,
-        2,
-    ),
-    Asked("x below it", b"roof", BELOW, None, None, Kind::Truth, 2),
-    Asked(
-        "x at the highest",
-        b"roof",
-        HIGHEST,
-        None,
-        None,
-        Kind::Truth,
-        2,
-    ),
-    Asked("x above it", b"roof", ABOVE, None, None, Kind::Truth, 2),
-    Asked("x upside down", b"roof", TURNED, None, None, Kind::Truth, 0),
-    Asked(
-        "y at the lowest",
-        b"roof",
-        ONE,
-        LOWEST,
-        None,
-        Kind::Truth,
-        2,
-    ),
-    Asked("y below it", b"roof", ONE, BELOW, None, Kind::Truth, 2),
-    Asked(
-        "y at the highest",
-        b"roof",
-        ONE,
-        HIGHEST,
-        None,
-        Kind::Truth,
-        2,
-    ),
-    Asked("y above it", b"roof", ONE, ABOVE, None, Kind::Truth, 2),
-    Asked("y upside down", b"roof", ONE, TURNED, None, Kind::Truth, 0),
-    Asked(
-        "t at the lowest",
-        b"roof",
-        ONE,
-        None,
-        LOWEST,
-        Kind::Truth,
-        2,
-    ),
-    Asked("t below it", b"roof", ONE, None, BELOW, Kind::Truth, 2),
-    Asked(
-        "t at the highest",
-        b"roof",
-        ONE,
-        None,
-        HIGHEST,
-        Kind::Truth,
-        2,
-    ),
-    Asked("t above it", b"roof", ONE, None, ABOVE, Kind::Truth, 2),
-    Asked("t upside down", b"roof", ONE, None, TURNED, Kind::Truth, 0),
-    Asked("x missing", b"roof", None, ONE, ONE, Kind::Truth, 1),
-    Asked("x alone", b"roof", ONE, None, None, Kind::Truth, 1),
+    Asked {
+        what: "x at the lowest",
+        domain: Domain { x: LOWEST, ..CELL },
+        length: 2,
+        ..PLAIN
+    },
+    Asked {
+        what: "x below it",
+        domain: Domain { x: BELOW, ..CELL },
+        length: 2,
+        ..PLAIN
+    },
+    Asked {
+        what: "x at the highest",
+        domain: Domain { x: HIGHEST, ..CELL },
+        length: 2,
+        ..PLAIN
+    },
+    Asked {
+        what: "x above it",
+        domain: Domain { x: ABOVE, ..CELL },
+        length: 2,
+        ..PLAIN
+    },
+    Asked {
+        what: "x upside down",
+        domain: Domain { x: TURNED, ..CELL },
+        length: 0,
+        ..PLAIN
+    },
+    Asked {
+        what: "y at the lowest",
+        domain: Domain { y: LOWEST, ..CELL },
+        length: 2,
+        ..PLAIN
+    },
+    Asked {
+        what: "y below it",
+        domain: Domain { y: BELOW, ..CELL },
+        length: 2,
+        ..PLAIN
+    },
+    Asked {
+        what: "y at the highest",
+        domain: Domain { y: HIGHEST, ..CELL },
+        length: 2,
+        ..PLAIN
+    },
+    Asked {
+        what: "y above it",
+        domain: Domain { y: ABOVE, ..CELL },
+        length: 2,
+        ..PLAIN
+    },
+    Asked {
+        what: "y upside down",
+        domain: Domain { y: TURNED, ..CELL },
+        length: 0,
+        ..PLAIN
+    },
+    Asked {
+        what: "t at the lowest",
+        domain: Domain { t: LOWEST, ..CELL },
+        length: 2,
+        ..PLAIN
+    },
+    Asked {
+        what: "t below it",
+        domain: Domain { t: BELOW, ..CELL },
+        length: 2,
+        ..PLAIN
+    },
+    Asked {
+        what: "t at the highest",
+        domain: Domain { t: HIGHEST, ..CELL },
+        length: 2,
+        ..PLAIN
+    },
+    Asked {
+        what: "t above it",
+        domain: Domain { t: ABOVE, ..CELL },
+        length: 2,
+        ..PLAIN
+    },
+    Asked {
+        what: "t upside down",
+        domain: Domain { t: TURNED, ..CELL },
+        length: 0,
+        ..PLAIN
+    },
+    Asked {
+        what: "x missing",
+        domain: Domain {
+            x: None,
+            y: ONE,
+            t: ONE,
+        },
+        ..PLAIN
+    },
+    Asked {
+        what: "x alone",
+        ..PLAIN
+    },
 ];
 
 /// Spans reach from -2,147,483,647 to 2,147,483,647, the lowest not above the highest.
 const SPANS: [Asked; 7] = [
-    Asked(
-        "the widest span",
-        b"roof",
-        ONE,
-        None,
-        None,
-        Kind::Number(Range {
+    Asked {
+        what: "the widest span",
+        kind: Kind::Number(Range {
             lo: -2147483647,
             hi: 2147483647,
         }),
-        1,
-    ),
-    Asked(
-        "one lower",
-        b"roof",
-        ONE,
-        None,
-        None,
-        Kind::Number(Range {
+        ..PLAIN
+    },
+    Asked {
+        what: "one lower",
+        kind: Kind::Number(Range {
             lo: -2147483648,
             hi: 2147483647,
         }),
-        1,
-    ),
-    Asked(
-        "one higher",
-        b"roof",
-        ONE,
-        None,
-        None,
-        Kind::Number(Range {
+        ..PLAIN
+    },
+    Asked {
+        what: "one higher",
+        kind: Kind::Number(Range {
             lo: -2147483647,
             hi: 2147483648,
         }),
-        1,
-    ),
-    Asked(
-        "a single value",
-        b"roof",
-        ONE,
-        None,
-        None,
-        Kind::Number(Range { lo: 7, hi: 7 }),
-        1,
-    ),
-    Asked(
-        "upside down",
-        b"roof",
-        ONE,
-        None,
-        None,
-        Kind::Number(Range { lo: 8, hi: 7 }),
-        1,
-    ),
-    Asked(
-        "upside down and too wide",
-        b"roof",
-        ONE,
-        None,
-        None,
-        Kind::Number(Range {
+        ..PLAIN
+    },
+    Asked {
+        what: "a single value",
+        kind: Kind::Number(Range { lo: 7, hi: 7 }),
+        ..PLAIN
+    },
+    Asked {
+        what: "upside down",
+        kind: Kind::Number(Range { lo: 8, hi: 7 }),
+        ..PLAIN
+    },
+    Asked {
+        what: "upside down and too wide",
+        kind: Kind::Number(Range {
             lo: 2147483648,
             hi: -2147483648,
         }),
-        1,
-    ),
-    Asked("truth", b"roof", ONE, None, None, Kind::Truth, 1),
+        ..PLAIN
+    },
+    Asked {
+        what: "truth",
+        ..PLAIN
+    },
 ];
 
 const BYTE: Option<Range> = Some(Range { lo: 0, hi: 255 });
@@ -184,63 +201,88 @@ const FULLER: Option<Range> = Some(Range { lo: 0, hi: 65536 });
 
 /// A coverage has 65,536 cells at most.
 const CELLS: [Asked; 9] = [
-    Asked("65,536 in x", b"roof", FULL, None, None, Kind::Truth, 65536),
-    Asked(
-        "65,537 in x",
-        b"roof",
-        FULLER,
-        None,
-        None,
-        Kind::Truth,
-        65537,
-    ),
-    Asked("256 by 256", b"roof", BYTE, BYTE, None, Kind::Truth, 65536),
-    Asked("256 by 257", b"roof", BYTE, MORE, None, Kind::Truth, 65792),
-    Asked(
-        "256 by 256 in t",
-        b"roof",
-        BYTE,
-        None,
-        BYTE,
-        Kind::Truth,
-        65536,
-    ),
-    Asked(
-        "257 by 256 in t",
-        b"roof",
-        MORE,
-        None,
-        BYTE,
-        Kind::Truth,
-        65792,
-    ),
-    Asked(
-        "4 by 64 by 256",
-        b"roof",
-        FOUR,
-        SIDE,
-        BYTE,
-        Kind::Truth,
-        65536,
-    ),
-    Asked(
-        "4 by 64 by 257",
-        b"roof",
-        FOUR,
-        SIDE,
-        MORE,
-        Kind::Truth,
-        65792,
-    ),
-    Asked(
-        "all coordinates",
-        b"roof",
-        FARTHEST,
-        FARTHEST,
-        FARTHEST,
-        Kind::Truth,
-        0,
-    ),
+    Asked {
+        what: "65,536 in x",
+        domain: Domain { x: FULL, ..CELL },
+        length: 65536,
+        ..PLAIN
+    },
+    Asked {
+        what: "65,537 in x",
+        domain: Domain { x: FULLER, ..CELL },
+        length: 65537,
+        ..PLAIN
+    },
+    Asked {
+        what: "256 by 256",
+        domain: Domain {
+            x: BYTE,
+            y: BYTE,
+            ..CELL
+        },
+        length: 65536,
+        ..PLAIN
+    },
+    Asked {
+        what: "256 by 257",
+        domain: Domain {
+            x: BYTE,
+            y: MORE,
+            ..CELL
+        },
+        length: 65792,
+        ..PLAIN
+    },
+    Asked {
+        what: "256 by 256 in t",
+        domain: Domain {
+            x: BYTE,
+            t: BYTE,
+            ..CELL
+        },
+        length: 65536,
+        ..PLAIN
+    },
+    Asked {
+        what: "257 by 256 in t",
+        domain: Domain {
+            x: MORE,
+            t: BYTE,
+            ..CELL
+        },
+        length: 65792,
+        ..PLAIN
+    },
+    Asked {
+        what: "4 by 64 by 256",
+        domain: Domain {
+            x: FOUR,
+            y: SIDE,
+            t: BYTE,
+        },
+        length: 65536,
+        ..PLAIN
+    },
+    Asked {
+        what: "4 by 64 by 257",
+        domain: Domain {
+            x: FOUR,
+            y: SIDE,
+            t: MORE,
+        },
+        length: 65792,
+        ..PLAIN
+    },
+    Asked {
+        what: "all coordinates",
+        domain: Domain {
+            x: FARTHEST,
+            y: FARTHEST,
+            t: FARTHEST,
+        },
+        length: 0,
+        ..PLAIN
+    },
 ];
 
 pub fn limits(rt: &HostRuntime) -> io::Result<()> {

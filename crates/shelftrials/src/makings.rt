@@ -1,5 +1,5 @@
 // The makings of received grids: their memory, the order of their tests, and what is made.
-use crate::asked::{Asked, ask_all};
+use crate::asked::{Asked, CELL, PLAIN, ask_all};
 use crate::calls::{Call, Case, perform_all};
 use coverage::{Domain, Kind, Range};
 use shelves::make_grid;
@@ -28,27 +28,74 @@ const PERCENT: Kind = Kind::Number(Range { lo: 0, hi: 100 });
 
 /// Memory has just as many places as there are cells.
 const MEMORY: [Asked; 4] = [
-    Asked(
-        "no place for 6 cells",
-        b"roof",
-        THREE,
-        TWO,
-        None,
-        PERCENT,
-        0,
-    ),
-    Asked("5 places", b"roof", THREE, TWO, None, PERCENT, 5),
-    Asked("6 places", b"roof", THREE, TWO, None, PERCENT, 6),
-    Asked("7 places", b"roof", THREE, TWO, None, PERCENT, 7),
+    Asked {
+        what: "no place for 6 cells",
+        domain: SIX,
+        kind: PERCENT,
+        length: 0,
+        ..PLAIN
+    },
+    Asked {
+        what: "5 places",
+        domain: SIX,
+        kind: PERCENT,
+        length: 5,
+        ..PLAIN
+    },
+    Asked {
+        what: "6 places",
+        domain: SIX,
+        kind: PERCENT,
+        length: 6,
+        ..PLAIN
+    },
+    Asked {
+        what: "7 places",
+        domain: SIX,
+        kind: PERCENT,
+        length: 7,
+        ..PLAIN
+    },
 ];
 
 /// Where several causes fit, the first in order is told.
 const ORDER: [Asked; 5] = [
-    Asked("all wrong", b"", FAR, None, None, WIDE, 0),
-    Asked("all but the name", b"roof", FAR, None, None, WIDE, 0),
-    Asked("span, cells and memory", b"roof", MANY, None, None, WIDE, 0),
-    Asked("cells and memory", b"roof", MANY, None, None, PERCENT, 0),
-    Asked("memory", b"roof", THREE, TWO, None, PERCENT, 0),
+    Asked {
+        what: "all wrong",
+        name: b"",
+        domain: Domain { x: FAR, ..CELL },
+        kind: WIDE,
+        length: 0,
+        ..PLAIN
+    },
+    Asked {
+        what: "all but the name",
+        domain: Domain { x: FAR, ..CELL },
+        kind: WIDE,
+        length: 0,
+        ..PLAIN
+    },
+    Asked {
+        what: "span, cells and memory",
+        domain: Domain { x: MANY, ..CELL },
+        kind: WIDE,
+        length: 0,
+        ..PLAIN
+    },
+    Asked {
+        what: "cells and memory",
+        domain: Domain { x: MANY, ..CELL },
+        kind: PERCENT,
+        length: 0,
+        ..PLAIN
+    },
+    Asked {
+        what: "memory",
+        domain: SIX,
+        kind: PERCENT,
+        length: 0,
+        ..PLAIN
+    },
 ];
 
 /// What a grid answers just after its making.

@@ -1,62 +1,113 @@
 // Names: a letter, and up to 15 more letters, digits or underscores.
-use crate::asked::{Asked, ONE, ask_all};
-use coverage::Kind;
+use crate::asked::{Asked, PLAIN, ask_all};
 use std::io;
 
 const NAMES: [Asked; 21] = [
-    Asked("no byte", b"", ONE, None, None, Kind::Truth, 1),
-    Asked("one byte", b"r", ONE, None, None, Kind::Truth, 1),
-    Asked(
-        "16 bytes",
-        b"roof_moisture_16",
-        ONE,
-        None,
-        None,
-        Kind::Truth,
-        1,
-    ),
-    Asked(
-        "17 bytes",
-        b"roof_moisture_017",
-        ONE,
-        None,
-        None,
-        Kind::Truth,
-        1,
-    ),
-    Asked("a digit first", b"9roof", ONE, None, None, Kind::Truth, 1),
-    Asked(
-        "an underscore first",
-        b"_roof",
-        ONE,
-        None,
-        None,
-        Kind::Truth,
-        1,
-    ),
-    Asked(
-        "digits and underscores later",
-        b"r0_9",
-        ONE,
-        None,
-        None,
-        Kind::Truth,
-        1,
-    ),
-    Asked("a hyphen", b"roof-1", ONE, None, None, Kind::Truth, 1),
-    Asked("a blank last", b"roof ", ONE, None, None, Kind::Truth, 1),
-    Asked("before A", b"@", ONE, None, None, Kind::Truth, 1),
-    Asked("A", b"A", ONE, None, None, Kind::Truth, 1),
-    Asked("Z", b"Z", ONE, None, None, Kind::Truth, 1),
-    Asked("after Z", b"[", ONE, None, None, Kind::Truth, 1),
-    Asked("before a", b"`", ONE, None, None, Kind::Truth, 1),
-    Asked("a", b"a", ONE, None, None, Kind::Truth, 1),
-    Asked("z", b"z", ONE, None, None, Kind::Truth, 1),
-    Asked("after z", b"{", ONE, None, None, Kind::Truth, 1),
-    Asked("later, before 0", b"r/", ONE, None, None, Kind::Truth, 1),
-    Asked("later, 0", b"r0", ONE, None, None, Kind::Truth, 1),
-    Asked("later, 9", b"r9", ONE, None, None, Kind::Truth, 1),
-    Asked("later, after 9", b"r:", ONE, None, None, Kind::Truth, 1),
+    Asked {
+        what: "no byte",
+        name: b"",
+        ..PLAIN
+    },
+    Asked {
+        what: "one byte",
+        name: b"r",
+        ..PLAIN
+    },
+    Asked {
+        what: "16 bytes",
+        name: b"roof_moisture_16",
+        ..PLAIN
+    },
+    Asked {
+        what: "17 bytes",
+        name: b"roof_moisture_017",
+        ..PLAIN
+    },
+    Asked {
+        what: "a digit first",
+        name: b"9roof",
+        ..PLAIN
+    },
+    Asked {
+        what: "an underscore first",
+        name: b"_roof",
+        ..PLAIN
+    },
+    Asked {
+        what: "digits and underscores later",
+        name: b"r0_9",
+        ..PLAIN
+    },
+    Asked {
+        what: "a hyphen",
+        name: b"roof-1",
+        ..PLAIN
+    },
+    Asked {
+        what: "a blank last",
+        name: b"roof ",
+        ..PLAIN
+    },
+    Asked {
+        what: "before A",
+        name: b"@",
+        ..PLAIN
+    },
+    Asked {
+        what: "A",
+        name: b"A",
+        ..PLAIN
+    },
+    Asked {
+        what: "Z",
+        name: b"Z",
+        ..PLAIN
+    },
+    Asked {
+        what: "after Z",
+        name: b"[",
+        ..PLAIN
+    },
+    Asked {
+        what: "before a",
+        name: b"`",
+        ..PLAIN
+    },
+    Asked {
+        what: "a",
+        name: b"a",
+        ..PLAIN
+    },
+    Asked {
+        what: "z",
+        name: b"z",
+        ..PLAIN
+    },
+    Asked {
+        what: "after z",
+        name: b"{",
+        ..PLAIN
+    },
+    Asked {
+        what: "later, before 0",
+        name: b"r/",
+        ..PLAIN
+    },
+    Asked {
+        what: "later, 0",
+        name: b"r0",
+        ..PLAIN
+    },
+    Asked {
+        what: "later, 9",
+        name: b"r9",
+        ..PLAIN
+    },
+    Asked {
+        what: "later, after 9",
+        name: b"r:",
+        ..PLAIN
+    },
 ];
 
 pub fn names(rt: &HostRuntime) -> io::Result<()> {

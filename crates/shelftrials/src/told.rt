@@ -2,18 +2,13 @@
 use coverage::{Description, Refusal};
 use shelf::{MakingFault, ShelfFault};
 use std::io;
-use written::{cell_line, refusal_line};
-
-/// `(refused shelf 19 0 1)`: the layer, the number of the cause, what is returned.
-fn tell_refusal(rt: &HostRuntime, refusal: Refusal) -> io::Result<()> {
-    rt.println(refusal_line(rt.alloc(), refusal)?)
-}
+use written::cell_line;
 
 /// Whether a making is allowed.
 pub fn tell_making(rt: &HostRuntime, answer: Result<(), MakingFault>) -> io::Result<()> {
     match answer {
         Ok(()) => println!(rt; "allowed"),
-        Err(fault) => tell_refusal(rt, fault.into()),
+        Err(fault) => println!(rt; "{}", Refusal::from(fault)),
     }
 }
 
@@ -21,7 +16,7 @@ pub fn tell_making(rt: &HostRuntime, answer: Result<(), MakingFault>) -> io::Res
 pub fn tell_strip(rt: &HostRuntime, answer: Result<(), ShelfFault>) -> io::Result<()> {
     match answer {
         Ok(()) => println!(rt; "put"),
-        Err(fault) => tell_refusal(rt, fault.into()),
+        Err(fault) => println!(rt; "{}", Refusal::from(fault)),
     }
 }
 
@@ -29,7 +24,7 @@ pub fn tell_strip(rt: &HostRuntime, answer: Result<(), ShelfFault>) -> io::Resul
 pub fn tell_look(rt: &HostRuntime, answer: Result<Option<i32>, ShelfFault>) -> io::Result<()> {
     match answer {
         Ok(cell) => rt.println(cell_line(rt.alloc(), cell)?),
-        Err(fault) => tell_refusal(rt, fault.into()),
+        Err(fault) => println!(rt; "{}", Refusal::from(fault)),
     }
 }
 
@@ -46,7 +41,7 @@ pub fn tell_description(
             let high = about.kind.high();
             println!(rt; "{cells} cells, {strips} strips, {low} to {high}")
         }
-        Err(fault) => tell_refusal(rt, fault.into()),
+        Err(fault) => println!(rt; "{}", Refusal::from(fault)),
     }
 }
 
