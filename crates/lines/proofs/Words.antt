@@ -24,9 +24,6 @@ count_number (b ∷ w) h =
     let e = digit_apart b 45 (omega arith) (and_left (is_digit b) (all_digits w) h) in
     ap (λ (c : Bool). cond c (is_count w) (is_count (b ∷ w))) e ∙ h
 
-pub minus_number : (b : ℕ) (w : List ℕ) → b ≡ 45 → is_count w ≡ true → is_number (b ∷ w) ≡ true
-minus_number b w e h = ap (λ (x : ℕ). cond (eqb x 45) (is_count w) (is_count (x ∷ w))) e ∙ h
-
 -- digits have no blank among them
 digits_word : (w bs : List ℕ) → all_digits bs ≡ true → words_after w bs ≡ (w ++ bs) ∷ []
 digits_word w [] h = ap (λ (v : List ℕ). v ∷ []) (sym (append_nil w))
