@@ -1,4 +1,6 @@
-ghost use Rattle.std.specs.Prelude.{◌≡◌, ◌≤◌, ℕ, ◌+◌, ◌<◌, ◌++◌, length, drop, Bool, slice_get, ◌≢◌, Some, MatchBool, MatchResult};
+ghost use Rattle.std.specs.Prelude.{◌≡◌, ◌≢◌, ℕ, ◌+◌, ◌<◌, ◌≤◌, Bool, Some, ◌++◌, length, drop, slice_get, MatchBool, MatchResult};
+
+use crate::lengths::{common_length, run_length};
 
 /// A place in a text, at most its end.
 #[derive(Clone, Copy)]
@@ -7,8 +9,6 @@ pub struct Cursor<'a> {
     pub at: usize,
     pub ghost within: { at ≤ length text.now },
 }
-
-use crate::lengths::{common_length, run_length};
 
 impl<'a> Cursor<'a> {
     ghost use Rattle.std.specs.List.{prefix_len, between};

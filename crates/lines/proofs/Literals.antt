@@ -1,7 +1,8 @@
 -- Fixed bytes at a place of a line.
-use Rattle.std.proofs.Common.{◌≡◌, ℕ, ◌+◌, ◌<◌, Bool, true, false, cond, eqb, List, [], ◌∷◌, ◌++◌, length, Some, Ok, Err, Result, MatchResult, sym, refl, ap, ◌∙◌, arith, eq-eqb, ne_eqb, eqb-true}
+use Rattle.std.proofs.Common.{◌≡◌, ℕ, ◌+◌, ◌<◌, Bool, true, false, cond, eqb, List, [], ◌∷◌, ◌++◌, length, Some, Ok, Err, Result, MatchResult, sym, refl, ap, ◌∙◌, arith, length-drop, eq-eqb, ne_eqb, eqb-true}
 use borrow.Author.Tests.{clash}
 use Rattle.std.specs.List.{between}
+use Rattle.std.proofs.lemmas.List.Sums.{common_prefix_len-le}
 use Rattle.coverage.proofs.Bools.{by_test}
 use Rattle.cursor.specs.declared.cursor.Cursor.{Cursor}
 use Rattle.cursor.specs.Rest.{rest}
@@ -34,4 +35,8 @@ pub literal_read : (w : List ℕ) (from to : Cursor) (r : Result (Unit {0}) ℕ)
 literal_read w from to (Ok u) same m =
     let e = past_word from to same w m.0 m.1 in
     (w, record { text = same; place = m.0; bytes = e; turns = λ s. ap (stop from.at (word w ∷ s)) e ∙ word_goes w (rest to) from.at s ∙ ap (λ (n : ℕ). stop n s (rest to)) (sym m.0) }, refl)
-literal_read w from to (Err p) same m = λ s. word_halts w (rest from) from.at s (omega arith) ∙ ap (λ (n : ℕ). Some n) (sym m.1)
+literal_read w from to (Err p) same m =
+    let l = common_prefix_len-le eqb w (rest from) in
+    let d = length-drop from.at from.text.now in
+    let i = from.within in
+    record { forward = omega arith; within = omega arith; turns = λ s. word_halts w (rest from) from.at s (omega arith) ∙ ap (λ (n : ℕ). Some n) (sym m.1) }

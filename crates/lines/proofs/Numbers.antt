@@ -1,5 +1,5 @@
 -- Reading a number, and numbers with a blank between them.
-use Rattle.std.proofs.Common.{◌≡◌, ℕ, ◌+◌, Bool, true, false, cond, ◌&&◌, List, [], ◌∷◌, ◌++◌, length, sym, refl, ap, ◌∙◌, append_assoc, arith, length-append}
+use Rattle.std.proofs.Common.{◌≡◌, ℕ, ◌+◌, ◌≤◌, Bool, true, false, cond, ◌&&◌, List, [], ◌∷◌, ◌++◌, length, sym, refl, ap, ◌∙◌, append_assoc, arith, length-append}
 use Rattle.std.specs.List.{between}
 use Rattle.cursor.specs.declared.cursor.Cursor.{Cursor}
 use Rattle.cursor.specs.Rest.{rest}
@@ -26,8 +26,17 @@ module _ (from to : Cursor) (same : to.text.now ≡ from.text.now) where
       alike from.at (number ∷ s) (digits ∷ s) (rest from) refl (λ c r q. ap (λ (t : Bool). cond t (onto (digits ∷ s)) (cond (is_digit c) (onto (more ∷ s)) stuck)) (other from to same 45 m c r q))
       ∙ ap (stop from.at (digits ∷ s)) (kept from to same 45 m) ∙ ap (λ (n : ℕ). stop n (digits ∷ s) (rest to)) (sym m.1)
 
+  past : (b : Bool) → Eaten from to same 45 b → from.at ≤ to.at
+  past true m = omega arith
+  past false m = omega arith
+
   pub number_stops : {p : ℕ} (b : Bool) → Eaten from to same 45 b → Stops (digits ∷ []) to p → Stops (number ∷ []) from p
-  number_stops b m h = λ s. signed b m s ∙ h s
+  number_stops b m h =
+      let f = h.forward in
+      let k = past b m in
+      let e = ap length same in
+      let l = h.within in
+      record { forward = omega arith; within = omega arith; turns = λ s. signed b m s ∙ h.turns s }
 
   pub number_found : {w : List ℕ} (end : Cursor) (b : Bool) → Eaten from to same 45 b → Reads (digits ∷ []) w to end → is_count w ≡ true → Found (number ∷ []) is_number from end
   number_found {w} end true m r h =
@@ -73,7 +82,12 @@ module _ (here next : Cursor) (same : next.text.now ≡ here.text.now) where
       }
 
   pub listing_stops : {p : ℕ} (from : Cursor) → Listing from here → Eaten here next same 32 true → Stops (number ∷ []) next p → Stops (number ∷ others ∷ []) from p
-  listing_stops from l m h = λ s. l.turns s ∙ blank_onto m s ∙ h (others ∷ s)
+  listing_stops from l m h =
+      let f = h.forward in
+      let p = l.place in
+      let e = ap length (same ∙ l.text) in
+      let k = h.within in
+      record { forward = omega arith; within = omega arith; turns = λ s. l.turns s ∙ blank_onto m s ∙ h.turns (others ∷ s) }
 
   -- without a blank there are no further numbers
   pub listing_all : (from : Cursor) → Listing from here → Eaten here next same 32 false → Found (number ∷ others ∷ []) (λ w. all_numbers (words_of w)) from next

@@ -7,7 +7,7 @@ use Rattle.coverage.proofs.Bools.{by_test, and_both}
 use Rattle.cursor.specs.declared.cursor.Cursor.{Cursor}
 use Rattle.cursor.specs.Rest.{rest}
 use Rattle.lines.specs.Numerals.{is_digit, all_digits, is_count}
-use Rattle.lines.specs.Pieces.{Piece, digits, more, name, is_name_byte, is_grid_name, stuck, onto, after, complete, stop, Reads}
+use Rattle.lines.specs.Pieces.{Piece, digits, more, name, is_name_byte, is_grid_name, stuck, onto, after, complete, stop, Reads, Stops}
 use Rattle.lines.proofs.Bytes.{alike, goes, halts, at_end_lem}
 
 -- the run of a byte that is of the sort, and of one that isn't
@@ -107,11 +107,12 @@ some_count (b ∷ w) h e = e
 more_reads : {w : List ℕ} {from to : Cursor} → Run is_digit w from to → Reads (more ∷ []) w from to
 more_reads run = run_reads run more (run_all is_digit more (λ s b e. ap (λ (c : Bool). cond c (onto (more ∷ s)) (after s b)) e) (λ s b e. ap (λ (c : Bool). cond c (onto (more ∷ s)) (after s b)) e) (λ s. refl))
 
-pub no_digits : {w : List ℕ} {from to : Cursor} → Run is_digit w from to → length w ≡ 0 → (s : List Piece) → stop from.at (digits ∷ s) (rest from) ≡ Some to.at
-no_digits {from = from} run h s =
+pub no_digits : {w : List ℕ} {from to : Cursor} → Run is_digit w from to → length w ≡ 0 → Stops (digits ∷ []) from to.at
+no_digits {from = from} run h =
     let n = run_length run in
     let e = run.end in
-    digits_none from.at s (rest from) (omega arith) ∙ ap (λ (k : ℕ). Some k) (omega arith)
+    let i = from.within in
+    record { forward = omega arith; within = omega arith; turns = λ s. digits_none from.at s (rest from) (omega arith) ∙ ap (λ (k : ℕ). Some k) (omega arith) }
 
 pub some_digits : {w : List ℕ} {from to : Cursor} → Run is_digit w from to → 0 < length w → Reads (digits ∷ []) w from to
 some_digits {from = from} run h =

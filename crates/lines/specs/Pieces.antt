@@ -1,5 +1,5 @@
 -- The pieces that forms are made of, and where a line stops being made of them.
-use Rattle.std.specs.Prelude.{◌≡◌, ℕ, suc, ◌+◌, Bool, true, false, cond, not, ◌&&◌, List, [], ◌∷◌, ◌++◌, length, Some, None, Ok, Err, Option, Result, ◌==◌}
+use Rattle.std.specs.Prelude.{◌≡◌, ℕ, suc, ◌+◌, ◌≤◌, Bool, true, false, cond, not, ◌&&◌, List, [], ◌∷◌, ◌++◌, length, Some, None, Ok, Err, Option, Result, ◌==◌}
 use Rattle.cursor.specs.declared.cursor.Cursor.{Cursor}
 use Rattle.cursor.specs.Rest.{rest}
 use Rattle.lines.specs.Numerals.{is_digit}
@@ -79,8 +79,10 @@ pub record Reads (x : List Piece) (w : List ℕ) (from to : Cursor) : Type 0 whe
   pub turns : (s : List Piece) → stop from.at (x ++ s) (rest from) ≡ stop to.at s (rest to)
 
 -- the line stops being made of the pieces at a place, whatever comes after them
-abbrev pub Stops : List Piece → Cursor → ℕ → Type 0
-Stops x from p = (s : List Piece) → stop from.at (x ++ s) (rest from) ≡ Some p
+pub record Stops (x : List Piece) (from : Cursor) (p : ℕ) : Type 0 where
+  pub forward : from.at ≤ p
+  pub within : p ≤ length from.text.now
+  pub turns : (s : List Piece) → stop from.at (x ++ s) (rest from) ≡ Some p
 
 -- bytes were read that say what is answered, or the line stops
 abbrev pub Read : {A : Type 0} → List Piece → (List ℕ → A → Type 0) → Cursor → Cursor → Result A ℕ → Type 0

@@ -3,7 +3,7 @@ ghost use Rattle.lines.specs.Grids.{has_t, has_y};
 
 /// The axes that a grid line writes: x, and perhaps others.
 #[derive(Clone, Copy)]
-pub enum Axes {
+pub(crate) enum Axes {
     X,
     Xy,
     Xt,
@@ -11,13 +11,13 @@ pub enum Axes {
 }
 
 impl Axes {
-    pub fn has_y(self) -> bool
+    pub(crate) fn has_y(self) -> bool
         ensures { result ≡ has_y self }
     {
         matches!(self, Axes::Xy | Axes::Xyt)
     }
 
-    pub fn has_t(self) -> bool
+    pub(crate) fn has_t(self) -> bool
         ensures { result ≡ has_t self }
     {
         matches!(self, Axes::Xt | Axes::Xyt)
@@ -26,7 +26,7 @@ impl Axes {
 
 /// What a grid line says of its cells.
 #[derive(Clone, Copy)]
-pub enum Sort {
+pub(crate) enum Sort {
     Numbers,
     Truths,
 }

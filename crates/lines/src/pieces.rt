@@ -1,7 +1,9 @@
 // The pieces of a form. Each goes past its bytes and answers what they say, or the place where the line stops.
-ghost use Rattle.std.specs.Prelude.{◌≡◌, true, [], ◌∷◌, ◌++◌, codes};
+ghost use Rattle.std.specs.Prelude.{◌≡◌, ◌+◌, true, [], ◌∷◌, ◌++◌, codes};
+ghost use Rattle.std.specs.List.{prefix_len};
+ghost use Rattle.cursor.specs.Rest.{rest};
 ghost use Rattle.lines.specs.Numerals.{all_numbers, is_count, is_number, words_of};
-ghost use Rattle.lines.specs.Pieces.{Ends, IsPart, Read, Reads, digits as some_digits, is_grid_name, name as a_name, number as a_number, others, text as a_text, word as exactly};
+ghost use Rattle.lines.specs.Pieces.{Ends, IsPart, Read, Reads, digits as some_digits, is_grid_name, is_name_byte, name as a_name, number as a_number, others, text as a_text, word as exactly};
 ghost use Rattle.lines.specs.Says.{Counts, Numbers};
 
 use crate::numeral::{count_of, int_of};
@@ -18,6 +20,7 @@ pub fn literal(from: &mut Cursor, word: &[u8]) -> Result<(), usize>
 pub fn name<'a>(from: &mut Cursor<'a>) -> &'a [u8]
     ensures read { Reads (a_name ∷ []) result.now from.old from.new }
     ensures name { is_grid_name result.now ≡ true }
+    ensures longest { from.new.at ≡ from.old.at + prefix_len is_name_byte (rest from.old) }
 {
     from.run(|b| b != b' ' && b != b'(' && b != b')')
 }

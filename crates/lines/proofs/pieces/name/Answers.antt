@@ -12,3 +12,6 @@ returns-clause-read c = name_reads (run c)
 
 pub returns-clause-name : goal.returns-clause-name
 returns-clause-name c = name_bytes (run c)
+
+pub returns-clause-longest : goal.returns-clause-longest
+returns-clause-longest c = (run c).end
