@@ -1,7 +1,7 @@
 -- Cells that all fit a kind, one by one.
-use Rattle.std.proofs.Common.{◌≡◌, ℕ, ◌<◌, Bool, true, false, cond, ◌&&◌, eqb, ltb, List, length, get_or, ℤ, pos, Some, None, Decides, Option, refl, arith, ltb-true, eqb-true}
-use Rattle.std.specs.List.{AllByRecursion as All, list_all}
-use Rattle.std.proofs.ByRecursion.{Decides-by_and, All-get_or}
+use Rattle.std.proofs.Common.{◌≡◌, ℕ, ◌<◌, Bool, true, false, cond, ◌&&◌, eqb, ltb, List, length, get_or, ℤ, pos, Some, None, Option, refl, arith, ltb-true, eqb-true}
+use Rattle.std.proofs.lemmas.List.Elements.{All-get_or}
+use Rattle.std.proofs.lemmas.List.Sums.{AllPass-from_list_all}
 use Rattle.coverage.specs.declared.kind.Kind.{Kind}
 use Rattle.coverage.specs.declared.description.Description.{Description}
 use Rattle.coverage.specs.Axes.{extents}
@@ -12,11 +12,8 @@ use Rattle.shelf.specs.declared.fault.ShelfFault.{ShelfFault}
 use Rattle.shelf.specs.declared.fault.ShelfFault.TheVariants.{Fixed, NoStrip, Unfit}
 use Rattle.shelf.specs.Meaning.{all_fit, shape_fault}
 
-all_fit_is : (k : Kind) (xs : List ℤ) → Decides (all_fit k xs) (All (λ v. fits k v ≡ true) xs)
-all_fit_is k xs = Decides-by_and (fits k) (λ v. fits k v ≡ true) (list_all (fits k)) (λ x. ((λ e. e), (λ e. e))) refl (λ _ _. refl) xs
-
 pub fit_each : (k : Kind) (xs : List ℤ) → all_fit k xs ≡ true → (i : ℕ) → i < length xs → fits k (get_or xs i (pos 0)) ≡ true
-fit_each k xs e i h = All-get_or (λ v. fits k v ≡ true) xs i (pos 0) h ((all_fit_is k xs).0 e)
+fit_each k xs e i h = All-get_or (λ v. fits k v ≡ true) xs i (pos 0) h (AllPass-from_list_all (fits k) xs e)
 
 -- what is known of a strip that fits
 pub record Fitting (a : Description) (n : ℕ) (cs : List ℤ) : Type 0 where

@@ -1,5 +1,6 @@
 -- What a coverage answers under one number it answers under another, the fault told so.
 use Rattle.std.proofs.Common.{◌≡◌, ℕ, Bool, true, false, cond, ◌&&◌, eqb, ltb, List, length, ℤ, Some, None, Ok, Err, Option, Result, refl, ap}
+use Rattle.std.specs.Result.{MatchResult, IsErrAnd}
 use Rattle.coverage.specs.Axes.{Coordinates, inside_b}
 use Rattle.coverage.specs.Strips.{row_width, strips}
 use Rattle.shelf.specs.declared.fault.ShelfFault.{ShelfFault}
@@ -41,3 +42,10 @@ fault_told (Some k) c c' n cs =
 pub answer_told : (o : Option ShelfFault) (c n : ℕ) → answer_of (told_fault o c n) ≡ told (answer_of o) c n
 answer_told None c n = refl
 answer_told (Some f) c n = refl
+
+-- an answer whose fault is renumbered
+pub renumbered_told : {V : Type 0} (Post : ShelfFault → ShelfFault → Type 0) (r s : Result V ShelfFault) (c n : ℕ) → MatchResult r (λ x. s ≡ Ok x) (λ e. IsErrAnd s (Post e)) →
+    ((e f : ShelfFault) → Post e f → f ≡ renumbered e c n) → s ≡ told r c n
+renumbered_told Post (Ok x) s c n m h = m
+renumbered_told {V} Post (Err e) (Ok x) c n m h = absurd m
+renumbered_told {V} Post (Err e) (Err f) c n m h = let err : ShelfFault → Result V ShelfFault = λ g. Err g in ap err (h e f m)

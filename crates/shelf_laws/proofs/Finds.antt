@@ -1,5 +1,6 @@
 -- The lowest number with a name, in a part of a list and in two lists joined.
 use Rattle.std.proofs.Common.{◌≡◌, ℕ, zero, suc, ◌+◌, ◌<◌, ◌≤◌, Bool, true, false, cond, ltb, List, [], ◌∷◌, ◌++◌, length, take, Some, None, Option, sym, refl, ap, ◌∙◌, arith, ltb-false, ltb-true, le-ltb, lt-ltb}
+use Rattle.std.specs.Bool.{then_some}
 use Rattle.std.specs.Str.{bytes_eq}
 use Rattle.coverage.specs.Limits.{name_bytes}
 use Rattle.coverage.proofs.Bools.{by_test}
@@ -77,3 +78,7 @@ find_lt (x ∷ xs) nm j e =
 -- the lowest number with a name in a join
 pub find_joined : (a b : List Coverage) (nm : List ℕ) → find_answer (joined a b) nm ≡ below (or_else (find_answer a nm) (moved (find_answer b nm) (length a))) 8
 find_joined a b nm = find_take 8 (a ++ b) nm ∙ ap (λ o. below o 8) (find_append a b nm)
+
+pub then_cond : (b : Bool) (n : ℕ) → then_some b n ≡ cond b (Some n) None
+then_cond true n = refl
+then_cond false n = refl

@@ -1,16 +1,22 @@
 -- The received grid: its memory stays lawful, its meaning is lawful, and a row written is a strip put.
-use Rattle.std.proofs.Common.{◌≡◌, ℕ, ◌+◌, ◌*◌, ◌/◌, ◌<◌, ◌≤◌, Bool, true, false, cond, not, ◌||◌, ltb, List, [], ◌∷◌, length, get_or, replicate, ℤ, pos, is_some, Some, None, Ok, Err, Option, Result, sym, refl, ap, ◌∙◌, subst, ap₂, add-zero, mul_comm, add-mul, one-mul, arith, ltb-false, ltb-true, eq-eqb, eqb-true}
+use Rattle.std.proofs.Common.{◌≡◌, ℕ, ◌+◌, ◌*◌, ◌/◌, ◌<◌, ◌≤◌, Bool, true, false, cond, not, ◌||◌, ltb, zero, suc, Decides, List, [], ◌∷◌, length, get_or, replicate, ℤ, pos, is_some, Some, None, Ok, Err, Option, Result, sym, refl, ap, ◌∙◌, subst, ap₂, add-zero, mul_comm, add-mul, one-mul, arith, ltb-false, ltb-true, eq-eqb, eqb-true}
 use mathlib.Core.Path.{fun_ext}
 use borrow.Author.Tests.{both_ways, clash}
 use lib.ListN.{length-replicate}
 use lib.Seq.{paste}
 use Rattle.std.proofs.lemmas.List.{get_or-replicate}
 use Rattle.std.proofs.lemmas.Nat.{mul-le, mul-add-lt, div-mul-add, le-div, div-add-mod'}
-use Rattle.std.specs.List.{slice_get}
+use Rattle.std.specs.List.{list_all, slice_get}
+use Rattle.std.specs.Option.{option_map_or}
+use Rattle.std.specs.Result.{result_ok}
+use Rattle.std.proofs.lemmas.Bool.Decides.{Decides-below_and}
+use Rattle.std.proofs.lemmas.List.Elements.{All-get_or, All-from_get_or}
+use Rattle.std.proofs.lemmas.List.Sums.{AllPass-from_list_all, list_all-from_AllPass}
 use Rattle.coverage.specs.declared.axis.Axis.{Axis}
 use Rattle.coverage.specs.declared.axis.Axis.TheVariants.{X}
+use Rattle.coverage.specs.declared.kind.Kind.{Kind}
 use Rattle.coverage.specs.declared.description.Description.{Description}
-use Rattle.coverage.specs.Axes.{Coordinates, Extents, Ordered, cells, extents, inside_b, number_at, step_of}
+use Rattle.coverage.specs.Axes.{Domain, Coordinates, Extents, Ordered, cells, extents, inside_b, number_at, step_of}
 use Rattle.coverage.specs.Kinds.{Within, fits}
 use Rattle.coverage.specs.Limits.{describable}
 use Rattle.coverage.specs.Strips.{in_strip, row_width, strip_at, strip_first, strips}
@@ -18,16 +24,21 @@ use Rattle.coverage.proofs.Bools.{and_left, and_right, and_both, by_test}
 use Rattle.coverage.proofs.Points.{inside_from, inside_test}
 use Rattle.coverage.proofs.Numbers.{number_below, size_some, step_below}
 use Rattle.coverage.proofs.Standing.{in_strip_holds, in_own_strip, number_by_strip, strip_first_holds}
-use Rattle.coverage.proofs.Bounds.{bounded_ordered, describable_by}
+use Rattle.coverage.proofs.Bounds.{bounded_ordered, describable_by, few_cells}
+use Rattle.shelf.specs.declared.fault.MakingFault.{MakingFault}
 use Rattle.shelf.specs.declared.fault.ShelfFault.{ShelfFault}
-use Rattle.shelf.specs.declared.fault.ShelfFault.TheVariants.{AlreadyThere, Outside}
-use Rattle.shelf.specs.Meaning.{Coverage, all_fit, cell_at, edited, fault_at, first, look_answer, looked, put_strip, shape_fault, strip_after, strip_answer, strip_fault, strip_there}
-use Rattle.shelf.specs.Laws.{Lawful, LawfulCoverage}
+use Rattle.shelf.specs.declared.fault.ShelfFault.TheVariants.{AlreadyThere}
+use Rattle.shelf.specs.Meaning.{Coverage, all_fit, cell_at, edited, fault_at, first, put_strip, shape_fault, strip_after, strip_answer, strip_fault, strip_there}
+use Rattle.shelf.specs.Laws.{LawfulCoverage}
 use Rattle.shelf.proofs.Settled.{settled_inside, settled_number}
-use Rattle.shelf.proofs.Fits.{fit_each, shape_fits}
-use Rattle.shelf.proofs.Single.{accepted_is, none_lawful, one_lawful}
-use Rattle.shelf_laws.specs.Grid.{about_ok, cell_ok, grid_coverage, grid_meaning, is_null, known, length_ok, null, row_ok}
+use Rattle.shelf.proofs.Fits.{Fitting, fit_each, shape_fits}
+use Rattle.shelf.proofs.Single.{accepted_is}
+use Rattle.shelf_laws.specs.Grid.{MadeGrid, about_ok, cell_ok, each_below, grid_coverage, grid_keeps, grid_meaning, is_null, known, length_ok, null, row_ok}
+use Rattle.shelf_laws.specs.Making.{grid_fault}
+use Rattle.shelf_laws.specs.Single.{Described, held}
+use Rattle.shelf_laws.proofs.Makings.{allowed_describable, grid_allowed}
 use Rattle.shelf_laws.proofs.Cells.{fit_not_null, known_value, some_known, within_known}
+use Rattle.shelf_laws.proofs.Singles.{kept_by}
 use Rattle.shelf_laws.proofs.Pastes.{by_place, paste_above, paste_below, paste_in, paste_long}
 
 abbrev pub cell_of : List ℤ → ℕ → ℤ
@@ -56,30 +67,28 @@ test_same : (x y : Bool) → x ≡ y → cond x y (not y) ≡ true
 test_same true y e = sym e
 test_same false y e = ap not (sym e)
 
-pub kept_from : (o : Option Description) (a : Description) (cs : List ℤ) → o ≡ Some a → about_ok o ≡ true → length_ok o (length cs) ≡ true →
-    ((i : ℕ) → i < length cs → cell_ok o (cell_of cs i) ≡ true) → ((i : ℕ) → i < length cs → row_ok o cs i ≡ true) → Kept a cs
-kept_from o a cs e ok long fit whole =
-    let ab = ap about_ok (sym e) ∙ ok in
+each_is : (f : ℕ → Bool) (n : ℕ) → Decides (each_below f n) ((i : ℕ) → i < n → f i ≡ true)
+each_is f n = Decides-below_and f (λ i. f i ≡ true) (each_below f) (λ i. ((λ e. e), (λ e. e))) refl (λ _. refl) n
+
+pub kept_from : (a : Description) (cs : List ℤ) → grid_keeps cs a ≡ true → Kept a cs
+kept_from a cs h =
+    let i = and_right (about_ok (Some a)) _ h in
+    let j = and_right (length_ok (Some a) (length cs)) _ i in
+    let ab = and_left (about_ok (Some a)) _ h in
     record {
       described = and_left (describable a) _ ab;
       receiving = and_right (describable a) _ ab;
-      long = eqb-true _ _ (ap (λ x. length_ok x (length cs)) (sym e) ∙ long);
-      fit = λ i h. ap (λ x. cell_ok x (cell_of cs i)) (sym e) ∙ fit i h;
-      whole = λ i h. same_test _ _ (ap (λ x. row_ok x cs i) (sym e) ∙ whole i h);
+      long = eqb-true _ _ (and_left (length_ok (Some a) (length cs)) _ i);
+      fit = λ n l. All-get_or (λ v. cell_ok (Some a) v ≡ true) cs n (pos 0) l (AllPass-from_list_all (cell_ok (Some a)) cs (and_left (list_all (cell_ok (Some a)) cs) _ j));
+      whole = λ n l. same_test _ _ ((each_is (row_ok (Some a) cs) (length cs)).0 (and_right (list_all (cell_ok (Some a)) cs) _ j) n l);
     }
 
-module _ (o : Option Description) (a : Description) (cs : List ℤ) (e : o ≡ Some a) (k : Kept a cs) where
-  pub about_ok_holds : about_ok o ≡ true
-  about_ok_holds = ap about_ok e ∙ and_both (describable a) _ k.described k.receiving
-
-  pub length_ok_holds : length_ok o (length cs) ≡ true
-  length_ok_holds = ap (λ x. length_ok x (length cs)) e ∙ eq-eqb _ _ k.long
-
-  pub cell_ok_holds : (i : ℕ) → i < length cs → cell_ok o (cell_of cs i) ≡ true
-  cell_ok_holds i h = ap (λ x. cell_ok x (cell_of cs i)) e ∙ k.fit i h
-
-  pub row_ok_holds : (i : ℕ) → i < length cs → row_ok o cs i ≡ true
-  row_ok_holds i h = ap (λ x. row_ok x cs i) e ∙ test_same _ _ (k.whole i h)
+pub kept_holds : (a : Description) (cs : List ℤ) → Kept a cs → grid_keeps cs a ≡ true
+kept_holds a cs k =
+    and_both (about_ok (Some a)) _ (and_both (describable a) _ k.described k.receiving)
+    (and_both (length_ok (Some a) (length cs)) _ (eq-eqb _ _ k.long)
+    (and_both (list_all (cell_ok (Some a)) cs) _ (list_all-from_AllPass (cell_ok (Some a)) cs (All-from_get_or (λ v. cell_ok (Some a) v ≡ true) cs (pos 0) k.fit))
+    ((each_is (row_ok (Some a) cs) (length cs)).1 (λ n l. test_same _ _ (k.whole n l)))))
 
 -- ---- looking
 
@@ -125,11 +134,6 @@ grid_lawful a cs k =
       cells_fit = λ p e. subst (Within a.kind) (sym (look_inside a cs p e)) (within_known a.kind (cell_of cs (number_at d p)) (k.fit (number_at d p) (omega (arith, number_below d p (inside_from d p e), k.long))));
       strips_whole = λ _ n h p q e f. marked n h p e ∙ sym (marked n h q f);
     }
-
-pub meaning_lawful : (o : Option Description) (cs : List ℤ) → about_ok o ≡ true → length_ok o (length cs) ≡ true →
-    ((i : ℕ) → i < length cs → cell_ok o (cell_of cs i) ≡ true) → ((i : ℕ) → i < length cs → row_ok o cs i ≡ true) → Lawful (grid_meaning o cs)
-meaning_lawful None cs ok long fit whole = none_lawful
-meaning_lawful (Some a) cs ok long fit whole = one_lawful (grid_coverage a cs) (grid_lawful a cs (kept_from (Some a) a cs refl ok long fit whole))
 
 -- ---- a row written
 
@@ -266,43 +270,93 @@ blank_is a cs h e =
     (λ f. ap (λ b. cond b (known (cell_of cs (number_at d p))) None) f) in
     ap make (fun_ext at)
 
--- ---- the calls of a grid that has a coverage
+-- ---- the strips of a grid that has a coverage
 
-module _ (o : Option Description) (a : Description) (cs : List ℤ) (c : ℕ) (is : o ≡ Some a) (zero : c ≡ 0) where
+-- the coverage that a call names
+pub held_is : (o : Option Description) (a : Description) (c n : ℕ) → held o c n ≡ Ok a → (o ≡ Some a) × (c ≡ 0)
+held_is None a c n e = cc
+held_is (Some b) a zero n e = let same : b ≡ a = cc in let some : Description → Option Description = λ x. Some x in (ap some same, refl)
+held_is (Some b) a (suc c) n e = cc
+
+-- a call that names a coverage finds its memory lawful
+pub held_kept : (o : Option Description) (a : Description) (cs : List ℤ) (c n : ℕ) → held o c n ≡ Ok a → option_map_or (grid_keeps cs) o true ≡ true → Kept a cs
+held_kept o a cs c n there kept = kept_from a cs (kept_by (grid_keeps cs) o a kept (held_is o a c n there).0)
+
+-- where a row that fits stands in the memory
+pub record Place (a : Description) (cs row : List ℤ) (n : ℕ) : Type 0 where
+  pub shape : Fitting a n row
+  pub room : n * row_width (extents a.domain) + length row ≤ length cs
+  pub begins : n * row_width (extents a.domain) < length cs
+  pub short : length cs ≤ 65536
+
+pub place : (a : Description) (cs row : List ℤ) (c n : ℕ) → Kept a cs → shape_fault a c n row ≡ None → Place a cs row n
+place a cs row c n k none =
+    let f = shape_fits a c n row none in
+    let d = extents a.domain in
+    let room = row_room a cs row n k f.below f.wide f.fit in
+    let wide = size_some (d X) (kept_ordered a cs k X) in
+    record { shape = f; room = room; begins = omega (arith, f.wide); short = omega (arith, k.long, few_cells d (describable_by a k.described).cells_few) }
+
+module _ (o : Option Description) (a : Description) (cs row : List ℤ) (c n : ℕ) (there : held o c n ≡ Ok a) where
+  is : (o ≡ Some a) × (c ≡ 0)
+  is = held_is o a c n there
+
   nth_is : slice_get (grid_meaning o cs) c ≡ Some (grid_coverage a cs)
-  nth_is = ap₂ (λ x n. slice_get (grid_meaning x cs) n) is zero
+  nth_is = ap₂ (λ x i. slice_get (grid_meaning x cs) i) is.0 is.1
 
-  pub look_known : (p : Coordinates) → inside_b (extents a.domain) p ≡ true → look_answer (grid_meaning o cs) c p ≡ Ok (known (cell_of cs (number_at (extents a.domain) p)))
-  look_known p e =
-      let ok : Option ℤ → Result (Option ℤ) ShelfFault = λ v. Ok v in
-      ap (λ k. looked k c p) nth_is ∙ (ap (λ b. cond b (ok (cell_at (grid_coverage a cs) p)) (Err (Outside c))) e ∙ ap ok (look_inside a cs p e))
-
-  pub look_outside : (p : Coordinates) → inside_b (extents a.domain) p ≡ false → look_answer (grid_meaning o cs) c p ≡ Err (Outside c)
-  look_outside p e =
-      let ok : Option ℤ → Result (Option ℤ) ShelfFault = λ v. Ok v in
-      ap (λ k. looked k c p) nth_is ∙ ap (λ b. cond b (ok (cell_at (grid_coverage a cs) p)) (Err (Outside c))) e
-
-  -- a strip that does not fit
-  pub fault_shape : (n : ℕ) (row : List ℤ) (f : ShelfFault) → shape_fault a c n row ≡ Some f → strip_fault (grid_meaning o cs) c n row ≡ Some f
-  fault_shape n row f e = ap (λ k. fault_at k c n row) nth_is ∙ ap (λ x. first x (cond (strip_there (grid_coverage a cs) n) (Some (AlreadyThere c n)) None)) e
+  -- one that does not fit
+  pub fault_shape : (f : ShelfFault) → shape_fault a c n row ≡ Some f → strip_fault (grid_meaning o cs) c n row ≡ Some f
+  fault_shape f e = ap (λ k. fault_at k c n row) nth_is ∙ ap (λ x. first x (cond (strip_there (grid_coverage a cs) n) (Some (AlreadyThere c n)) None)) e
 
   -- one that fits
-  pub fault_there : (n : ℕ) (row : List ℤ) (b : Bool) → shape_fault a c n row ≡ None → strip_there (grid_coverage a cs) n ≡ b →
+  pub fault_there : (b : Bool) → shape_fault a c n row ≡ None → strip_there (grid_coverage a cs) n ≡ b →
       strip_fault (grid_meaning o cs) c n row ≡ cond b (Some (AlreadyThere c n)) None
-  fault_there n row b e t =
+  fault_there b e t =
       ap (λ k. fault_at k c n row) nth_is ∙ (ap (λ x. first x (cond (strip_there (grid_coverage a cs) n) (Some (AlreadyThere c n)) None)) e
       ∙ ap (λ x. cond x (Some (AlreadyThere c n)) None) t)
 
--- an accepted strip: the answer, and the meaning of the cells with its row written
-pub taken_is : (o : Option Description) (a : Description) (cs row new : List ℤ) (c n : ℕ) → o ≡ Some a → c ≡ 0 → (k : Kept a cs) → shape_fault a c n row ≡ None →
-    strip_there (grid_coverage a cs) n ≡ false → new ≡ paste cs (n * row_width (extents a.domain)) row (length row) →
-    (Ok tt ≡ strip_answer (grid_meaning o cs) c n row) × (grid_meaning o new ≡ strip_after (grid_meaning o cs) c n row)
-taken_is o a cs row new c n is zero k e t put =
-    let f = shape_fits a c n row e in
-    let none = fault_there o a cs c is zero n row false e t in
-    let r = accepted_is (grid_meaning o cs) c n row none in
-    let one : Coverage → List Coverage = λ x. x ∷ [] in (
-      r.0,
-      (ap (λ x. grid_meaning x new) is ∙ (ap (λ m. one (grid_coverage a m)) put ∙ (ap one (put_is a cs row n k f.below f.wide f.fit)
-          ∙ sym (ap₂ (λ x i. edited (grid_meaning x cs) i (λ y. put_strip y n row)) is zero)))) ∙ r.1,
-    )
+  -- an accepted strip: the answer, and the meaning of the cells with its row written
+  pub taken_is : (new : List ℤ) → (k : Kept a cs) → shape_fault a c n row ≡ None → strip_there (grid_coverage a cs) n ≡ false →
+      new ≡ paste cs (n * row_width (extents a.domain)) row (length row) →
+      (Ok tt ≡ strip_answer (grid_meaning o cs) c n row) × (grid_meaning o new ≡ strip_after (grid_meaning o cs) c n row)
+  taken_is new k e t put =
+      let f = shape_fits a c n row e in
+      let none = fault_there false e t in
+      let r = accepted_is (grid_meaning o cs) c n row none in
+      let one : Coverage → List Coverage = λ x. x ∷ [] in (
+        r.0,
+        (ap (λ x. grid_meaning x new) is.0 ∙ (ap (λ m. one (grid_coverage a m)) put ∙ (ap one (put_is a cs row n k f.below f.wide f.fit)
+            ∙ sym (ap₂ (λ x i. edited (grid_meaning x cs) i (λ y. put_strip y n row)) is.0 is.1)))) ∙ r.1,
+      )
+
+-- ---- making
+
+-- an allowed making: the memory is all null, and lawful; a refused one leaves it
+pub grid_made : (name : List ℕ) (d : Domain) (k : Kind) (before after : List ℤ) (r : Result Description MakingFault) (o : Option Description) →
+    Described (grid_fault name (extents d) k (length before)) name d k true r → o ≡ result_ok r → after ≡ cond (is_some o) (replicate (length before) null) before →
+    (option_map_or (grid_keeps after) o true ≡ true) × MadeGrid (grid_fault name (extents d) k (length before)) name d k (grid_meaning o after) before after
+grid_made name d k before after r o h e w = go (grid_fault name (extents d) k (length before)) refl h
+  where
+    go : (f : Option MakingFault) → grid_fault name (extents d) k (length before) ≡ f → Described f name d k true r → (option_map_or (grid_keeps after) o true ≡ true) × MadeGrid f name d k (grid_meaning o after) before after
+    go (Some f) is h =
+        let none : o ≡ None = e ∙ ap result_ok h in
+        (ap (λ x. option_map_or (grid_keeps after) x true) none, (ap (λ x. grid_meaning x after) none, w ∙ ap (λ x. cond (is_some x) (replicate (length before) null) before) none))
+    go None is h =
+        let a = h.0 in
+        let s = h.2 in
+        let some : o ≡ Some a = e ∙ ap result_ok h.1 in
+        let allowed = grid_allowed name (extents d) k (length before) is in
+        let describes = allowed_describable name d k (length before) a allowed s.named s.domained s.kinded in
+        let blank : after ≡ replicate (cells (extents a.domain)) null =
+        w ∙ (ap (λ x. cond (is_some x) (replicate (length before) null) before) some ∙ ap (λ n. replicate n null) (allowed.long ∙ sym (ap (λ x. cells (extents x)) s.domained))) in
+        let one : Coverage → List Coverage = λ x. x ∷ [] in (
+          ap (λ x. option_map_or (grid_keeps after) x true) some ∙ kept_holds a after (kept_blank a after describes s.marked blank),
+          record {
+            about = a;
+            named = s.named;
+            domained = s.domained;
+            kinded = s.kinded;
+            receiving = s.marked;
+            all_null = ap (λ x. grid_meaning x after) some ∙ ap one (blank_is a after describes blank);
+          },
+        )

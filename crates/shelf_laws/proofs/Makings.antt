@@ -1,27 +1,51 @@
 -- The calls before a making, and what an allowed making may rely on.
-use Rattle.std.proofs.Common.{◌≡◌, ℕ, Bool, true, false, cond, ◌&&◌, eqb, List, [], ℤ, is_err, Some, None, Option, Result, sym, refl, ap, ◌∙◌, subst, arith, eqb-true}
+use Rattle.std.proofs.Common.{◌≡◌, ℕ, Bool, true, false, cond, ◌&&◌, eqb, List, Some, None, Ok, Err, Option, Result, sym, refl, ap, ◌∙◌, subst, arith, eqb-true}
 use borrow.Author.Tests.{clash}
-use Rattle.std.specs.Option.{option_map}
+use Rattle.std.specs.Option.{option_map_or}
+use Rattle.std.specs.Result.{is_ok, result_ok, MatchResult}
 use Rattle.coverage.specs.declared.kind.Kind.{Kind}
-use Rattle.coverage.specs.declared.name.Name.{Name}
 use Rattle.coverage.specs.declared.description.Description.{Description}
 use Rattle.coverage.specs.Axes.{Domain, Extents, cells, extents}
 use Rattle.coverage.specs.Limits.{bounded, describable, few, is_name, kind_narrow, kind_ordered, name_bytes}
 use Rattle.coverage.proofs.Bools.{and_left, and_right, and_both}
 use Rattle.shelf.specs.declared.fault.MakingFault.{MakingFault}
 use Rattle.shelf.specs.declared.fault.MakingFault.TheVariants.{NoName, OutOfBounds, WideSpan, ManyCells, WrongLength}
-use Rattle.shelf.specs.Meaning.{Coverage}
-use Rattle.shelf_laws.specs.Making.{answer_of, grid_fault}
-use Rattle.shelf_laws.specs.Grid.{Blank, MadeGrid}
+use Rattle.shelf.specs.Meaning.{answer_of}
+use Rattle.shelf_laws.specs.Making.{grid_fault}
+use Rattle.shelf_laws.specs.Single.{AskedFor, Described}
 
--- a call before a making that answers a refusal has one, and one that answers none has none
-pub refusal_of_lem : (f : Option MakingFault) (r : Result (Unit {0}) MakingFault) → r ≡ answer_of f → is_err r ≡ true → (g : MakingFault) × (f ≡ Some g)
-refusal_of_lem None r e h = absurd (clash (sym (ap is_err e) ∙ h))
-refusal_of_lem (Some g) r e h = (g, refl)
+pub none_some : {X : Type 0} {x : X} → None ≡ Some x → ⊥
+none_some e = let z : ◌≡◌ {A = ℕ} 0 1 = cc in omega arith
 
-pub allowed_by : (f : Option MakingFault) (r : Result (Unit {0}) MakingFault) → r ≡ answer_of f → is_err r ≡ false → f ≡ None
-allowed_by None r e h = refl
-allowed_by (Some g) r e h = absurd (clash (sym h ∙ ap is_err e))
+-- the call before a making answers the fault, if any
+pub answer_by : {X : Type 0} (P : X → Type 0) (f : Option MakingFault) (r : Result X MakingFault) (s : Result (Unit {0}) MakingFault) →
+    (f ≡ None → is_ok r ≡ true) → ((g : MakingFault) → f ≡ Some g → r ≡ Err g) → is_ok s ≡ is_ok r → MatchResult r P (λ e. s ≡ Err e) → s ≡ answer_of f
+answer_by P None r s ok err v m = allowed s (v ∙ ok refl)
+  where
+    allowed : (t : Result (Unit {0}) MakingFault) → is_ok t ≡ true → t ≡ Ok tt
+    allowed (Ok x) e = refl
+    allowed (Err f) e = absurd (clash e)
+answer_by P (Some f) r s ok err v m = subst (λ x. MatchResult x P (λ e. s ≡ Err e)) (err f refl) m
+
+pub described_answer : (P : Description → Type 0) (f : Option MakingFault) (name : List ℕ) (d : Domain) (k : Kind) (receives : Bool) (r : Result Description MakingFault) (s : Result (Unit {0}) MakingFault) →
+    Described f name d k receives r → is_ok s ≡ is_ok r → MatchResult r P (λ e. s ≡ Err e) → s ≡ answer_of f
+described_answer P None name d k receives r s h v m = answer_by P None r s (λ _. ap is_ok h.1) (λ g e. absurd (none_some e)) v m
+described_answer P (Some f) name d k receives r s h v m = answer_by P (Some f) r s (λ e. absurd (none_some (sym e))) (λ g e. let same : f ≡ g = cc in h ∙ (let err : MakingFault → Result Description MakingFault = λ x. Err x in ap err same)) v m
+
+-- what is described passes a test that each description passes which is asked for and allowed
+pub described_passes : (test : Description → Bool) (f : Option MakingFault) (name : List ℕ) (d : Domain) (k : Kind) (receives : Bool) (r : Result Description MakingFault) →
+    Described f name d k receives r → ((a : Description) → f ≡ None → AskedFor name d k receives a → test a ≡ true) → option_map_or test (result_ok r) true ≡ true
+described_passes test None name d k receives r h all = ap (λ x. option_map_or test (result_ok x) true) h.1 ∙ all h.0 refl h.2
+described_passes test (Some f) name d k receives r h all = ap (λ x. option_map_or test (result_ok x) true) h
+
+-- what counting cells tells
+pub counted_err : (b : Bool) (n : ℕ) (g : MakingFault) → ◌≡◌ {A = Result ℕ MakingFault} (Err g) (cond b (Ok n) (Err ManyCells)) → (b ≡ false) × (g ≡ ManyCells)
+counted_err true n g e = cc
+counted_err false n g e = (refl, cc)
+
+pub counted_ok : (b : Bool) (n m : ℕ) → ◌≡◌ {A = Result ℕ MakingFault} (Ok m) (cond b (Ok n) (Err ManyCells)) → b ≡ true
+counted_ok true n m e = refl
+counted_ok false n m e = cc
 
 pub cond_none : (b : Bool) (x : Option MakingFault) (f : MakingFault) → cond b x (Some f) ≡ None → (b ≡ true) × (x ≡ None)
 cond_none true x f e = (refl, e)
@@ -52,20 +76,6 @@ grid_allowed name d k length e =
       long = eqb-true _ _ g.0;
     }
 
--- a name made of a text that is one has that text's bytes
-pub name_made : (text : List ℕ) (o : Option Name) → is_name text ≡ true → option_map name_bytes o ≡ cond (is_name text) (Some text) None → (n : Name) → o ≡ Some n → name_bytes n ≡ text
-name_made text o h e n is =
-    let some : List ℕ → Option (List ℕ) = λ x. Some x in
-    let f : some (name_bytes n) ≡ some text = sym (ap (option_map name_bytes) is) ∙ (e ∙ ap (λ b. cond b (some text) None) h) in
-    cc
-
-pub no_name_made : (text : List ℕ) (o : Option Name) → is_name text ≡ true → option_map name_bytes o ≡ cond (is_name text) (Some text) None → o ≡ None → ⊥
-no_name_made text o h e is =
-    let some : List ℕ → Option (List ℕ) = λ x. Some x in
-    let none : Option (List ℕ) = None in
-    let f : none ≡ some text = sym (ap (option_map name_bytes) is) ∙ (e ∙ ap (λ b. cond b (some text) None) h) in
-    let z : ◌≡◌ {A = ℕ} 0 1 = cc in omega arith
-
 -- the description of an allowed grid is within the limits
 pub allowed_describable : (text : List ℕ) (d : Domain) (k : Kind) (length : ℕ) (a : Description) → Allowed text (extents d) k length →
     name_bytes a.name ≡ text → a.domain ≡ d → a.kind ≡ k → describable a ≡ true
@@ -74,10 +84,3 @@ allowed_describable text d k length a h n e f =
     (and_both (bounded (extents a.domain)) _ (ap (λ x. bounded (extents x)) e ∙ h.axes_bounded)
     (and_both (kind_ordered a.kind) _ (ap kind_ordered f ∙ h.kind_ordered_holds)
     (and_both (kind_narrow a.kind) _ (ap kind_narrow f ∙ h.kind_narrow_holds) (ap (λ x. few (extents x)) e ∙ h.cells_few))))
-
--- what is made, by the refusal that there is or is not
-pub made_none : (f : Option MakingFault) (g : MakingFault) (name : List ℕ) (d : Domain) (k : Kind) (m : List Coverage) (before after : List ℤ) → f ≡ Some g → m ≡ [] → after ≡ before → MadeGrid f name d k m before after
-made_none f g name d k m before after e h i = subst (λ x. MadeGrid x name d k m before after) (sym e) (h, i)
-
-pub made_blank : (f : Option MakingFault) (name : List ℕ) (d : Domain) (k : Kind) (m : List Coverage) (before after : List ℤ) → f ≡ None → Blank name d k m → MadeGrid f name d k m before after
-made_blank f name d k m before after e b = subst (λ x. MadeGrid x name d k m before after) (sym e) b

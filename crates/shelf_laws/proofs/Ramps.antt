@@ -1,11 +1,13 @@
 -- Ramps: what an axis adds is small, the span holds every cell, and both of its ends are reached.
-use Rattle.std.proofs.Common.{◌≡◌, ℕ, ◌+◌, ◌*◌, ◌<◌, ◌≤◌, true, false, cond, not, ◌&&◌, List, [], ◌∷◌, length, get_or, drop, ℤ, pos, negsuc, ◌+ℤ◌, ◌*ℤ◌, ◌≤ℤ◌, Some, None, Option, sym, refl, ap, ◌∙◌, subst, ap₂, inl, inr, arith, w64, SFits, to_z, of_z}
+use Rattle.std.proofs.Common.{◌≡◌, ℕ, ◌+◌, ◌*◌, ◌<◌, ◌≤◌, true, false, cond, not, ◌&&◌, List, [], ◌∷◌, length, get_or, drop, ℤ, pos, negsuc, ◌+ℤ◌, ◌*ℤ◌, ◌≤ℤ◌, Some, None, Ok, Err, Bool, Result, Option, sym, refl, ap, ◌∙◌, subst, ap₂, inl, inr, arith, w64, SFits, to_z, of_z}
 use lib.Signed.{le_z, lt_z}
 use Rattle.std.specs.Int.{int_min, int_max}
 use Rattle.std.proofs.lemmas.List.{at_drop_more, at_drop_all}
 use Rattle.std.proofs.lemmas.Int.{ints, clamps, to_z-of_z}
 use Rattle.coverage.specs.declared.axis.Axis.{Axis}
 use Rattle.coverage.specs.declared.axis.Axis.TheVariants.{X}
+use Rattle.std.specs.Result.{is_ok, MatchResult}
+use Rattle.coverage.specs.declared.kind.Kind.{Kind}
 use Rattle.coverage.specs.declared.range.Range.{Range}
 use Rattle.coverage.specs.declared.description.Description.{Description}
 use Rattle.coverage.specs.Axes.{Domain, Coordinates, Extents, Holds, Inside, axes, cells, extents, same_z}
@@ -14,14 +16,17 @@ use Rattle.coverage.specs.Limits.{axis_bounded, bounded, few, is_name}
 use Rattle.coverage.proofs.Bools.{and_left, and_right, and_both, by_test}
 use Rattle.coverage.proofs.Points.{each, inside_from}
 use Rattle.coverage.proofs.Standing.{same_z_true, same_z_same}
+use Rattle.shelf.specs.declared.fault.MakingFault.{MakingFault}
 use Rattle.shelf.specs.declared.fault.MakingFault.TheVariants.{NoName, OutOfBounds, ManyCells}
-use Rattle.shelf.specs.Meaning.{settled, settled_on}
-use Rattle.shelf.specs.Laws.{Lawful}
-use Rattle.shelf_laws.specs.Single.{Asked, fixed_ok}
-use Rattle.shelf_laws.specs.Ramp.{AtCorner, AtEnd, Gradient, SpanIsExact, all_mild, is_mild, is_near, least, most, ramp_cells, ramp_fault, ramp_kind, ramp_meaning, ramp_ok, ramp_span, ramp_value, rise, rise_at, rises, sum_over}
+use Rattle.shelf.specs.Meaning.{Coverage, answer_of, settled, settled_on}
+use Rattle.shelf.specs.Laws.{LawfulCoverage}
+use Rattle.shelf_laws.specs.Single.{AskedFor, CellsOf, MadeFixed, fixed_ok}
+use Rattle.shelf_laws.specs.declared.ramp.Plane.{Plane}
+use Rattle.shelf_laws.specs.RampMaking.{DescribedRamp}
+use Rattle.shelf_laws.specs.Ramp.{AtCorner, AtEnd, Gradient, Slopes, gradient, SpanIsExact, all_mild, is_mild, is_near, least, most, ramp_cells, ramp_fault, ramp_kind, ramp_keeps, ramp_meaning, ramp_span, ramp_value, rise, rise_at, rises, sum_over}
 use Rattle.shelf_laws.proofs.Products.{Small, fits_64, mul_between, mul_small}
-use Rattle.shelf_laws.proofs.Makings.{Allowed, allowed_describable, cond_none}
-use Rattle.shelf_laws.proofs.Singles.{asked_all, fixed_lawful}
+use Rattle.shelf_laws.proofs.Makings.{Allowed, allowed_describable, answer_by, cond_none, none_some}
+use Rattle.shelf_laws.proofs.Singles.{fixed_by, fixed_lawful}
 
 -- ---- small numbers
 
@@ -185,32 +190,37 @@ settled_value g offset d p = ap (λ v. offset +ℤ v) (sum_alike (rise_at d g (s
 
 -- what holds of a ramp that has a coverage
 pub record Sloped (a : Description) (g : Gradient) (offset : ℤ) : Type 0 where
+  pub fixed : fixed_ok (Some a) ≡ true
   pub mild : all_mild g ≡ true
   pub near : is_near offset ≡ true
   pub lowest : low a.kind ≡ (ramp_span g offset (extents a.domain)).lo
   pub highest : high a.kind ≡ (ramp_span g offset (extents a.domain)).hi
 
-pub sloped_from : (o : Option Description) (a : Description) (g : Gradient) (offset : ℤ) → o ≡ Some a → ramp_ok o g offset ≡ true → Sloped a g offset
-sloped_from o a g offset is ok =
-    let h = ap (λ x. ramp_ok x g offset) (sym is) ∙ ok in
+pub sloped_from : (a : Description) (g : Gradient) (offset : ℤ) → ramp_keeps g offset a ≡ true → Sloped a g offset
+sloped_from a g offset kept =
+    let h = and_right (fixed_ok (Some a)) _ kept in
     let i = and_right (all_mild g) _ h in
     let j = and_right (is_near offset) _ i in
     record {
+      fixed = and_left (fixed_ok (Some a)) _ kept;
       mild = and_left (all_mild g) _ h;
       near = and_left (is_near offset) _ i;
       lowest = same_z_true _ _ (and_left (same_z (low a.kind) (ramp_span g offset (extents a.domain)).lo) _ j);
       highest = same_z_true _ _ (and_right (same_z (low a.kind) (ramp_span g offset (extents a.domain)).lo) _ j);
     }
 
-pub ramp_lawful : (o : Option Description) (g : Gradient) (offset : ℤ) → fixed_ok o ≡ true → ramp_ok o g offset ≡ true → Lawful (ramp_meaning o g offset)
-ramp_lawful o g offset h ok =
-    fixed_lawful o (ramp_cells g offset) h
-    (λ a is p e.
+pub ramp_lawful : (a : Description) (g : Gradient) (offset : ℤ) → ramp_keeps g offset a ≡ true → LawfulCoverage (record { about = a; cell = ramp_cells g offset (extents a.domain) })
+ramp_lawful a g offset h =
+    let s = sloped_from a g offset h in
+    fixed_lawful a (ramp_cells g offset) s.fixed
+    (λ p e.
     let d = extents a.domain in
-    let s = sloped_from o a g offset is ok in
     let b = span_holds g offset d p (inside_from d p e) in
     subst (λ v. Within a.kind (Some v)) (sym (settled_value g offset d p))
     (subst (λ v. v ≤ℤ ramp_value g offset d p) (sym s.lowest) b.0, subst (λ v. ramp_value g offset d p ≤ℤ v) (sym s.highest) b.1))
+
+pub ramp_fixed : (a : Description) (g : Gradient) (offset : ℤ) → ramp_keeps g offset a ≡ true → a.receives ≡ false
+ramp_fixed a g offset h = fixed_by a (sloped_from a g offset h).fixed
 
 -- every cell inside is small
 pub value_small : (g : Gradient) (offset : ℤ) (d : Extents) (p : Coordinates) → bounded d ≡ true → all_mild g ≡ true → is_near offset ≡ true → Inside d p → Small 2000000000 (ramp_value g offset d p)
@@ -264,15 +274,63 @@ span_allowed name d g offset h =
     ends_narrow : (x y v : ℤ) → x ≤ℤ v → v ≤ℤ y → Small 2000000000 x → Small 2000000000 y → (le_z x y ≡ true) × (le_z (negsuc 2147483646) x ≡ true) × (le_z y (pos 2147483647) ≡ true)
     ends_narrow x y v p q a b = (test x y (omega (arith, ints)), test (negsuc 2147483646) x (omega (arith, ints)), test y (pos 2147483647) (omega (arith, ints)))
 
--- an allowed making keeps the laws of the ramp
-pub ramp_kept : (name : List ℕ) (d : Domain) (g : Gradient) (offset : ℤ) (o : Option Description) → AllowedRamp name (extents d) g offset →
-    Asked (is_name name) name d (ramp_kind g offset (extents d)) false o → (fixed_ok o ≡ true) × (ramp_ok o g offset ≡ true)
-ramp_kept name d g offset o h asked =
+-- what an allowed making describes, the ramp keeps
+pub ramp_kept : (name : List ℕ) (d : Domain) (g : Gradient) (offset : ℤ) (a : Description) → AllowedRamp name (extents d) g offset →
+    AskedFor name d (ramp_kind g offset (extents d)) false a → ramp_keeps g offset a ≡ true
+ramp_kept name d g offset a h s =
     let k = ramp_kind g offset (extents d) in
-    asked_all (λ x. (fixed_ok x ≡ true) × (ramp_ok x g offset ≡ true)) name d k false o h.named asked
-    (λ a s.
-    let span : (f : Range → ℤ) → f (ramp_span g offset (extents d)) ≡ f (ramp_span g offset (extents a.domain)) = λ f. ap (λ x. f (ramp_span g offset (extents x))) (sym s.domained) in (
-      and_both _ _ (allowed_describable name d k (cells (extents d)) a (span_allowed name (extents d) g offset h) s.named s.domained s.kinded) (ap not s.marked),
-      and_both _ _ h.mild (and_both _ _ h.near
-          (and_both _ _ (same_z_same _ _ (ap low s.kinded ∙ span (λ r. r.lo))) (same_z_same _ _ (ap high s.kinded ∙ span (λ r. r.hi))))),
-    ))
+    let span : (f : Range → ℤ) → f (ramp_span g offset (extents d)) ≡ f (ramp_span g offset (extents a.domain)) = λ f. ap (λ x. f (ramp_span g offset (extents x))) (sym s.domained) in
+    and_both (fixed_ok (Some a)) _ (and_both _ _ (allowed_describable name d k (cells (extents d)) a (span_allowed name (extents d) g offset h) s.named s.domained s.kinded) (ap not s.marked))
+    (and_both _ _ h.mild (and_both _ _ h.near
+    (and_both _ _ (same_z_same _ _ (ap low s.kinded ∙ span (λ r. r.lo))) (same_z_same _ _ (ap high s.kinded ∙ span (λ r. r.hi))))))
+
+-- the refusal of a ramp by the outcomes of its tests
+pub ramp_fault_by : (name : List ℕ) (d : Extents) (g : Gradient) (offset : ℤ) (x y z : Bool) → is_name name ≡ x → (bounded d && (all_mild g && is_near offset)) ≡ y → few d ≡ z →
+    ramp_fault name d g offset ≡ cond x (cond y (cond z None (Some ManyCells)) (Some OutOfBounds)) (Some NoName)
+ramp_fault_by name d g offset x y z ex ey ez =
+    let some : MakingFault → Option MakingFault = λ f. Some f in
+    let by : Bool → Bool → Bool → Option MakingFault = λ a b c. cond a (cond b (cond c None (some ManyCells)) (some OutOfBounds)) (some NoName) in
+    ap (λ a. by a (bounded d && (all_mild g && is_near offset)) (few d)) ex ∙ (ap (λ b. by x b (few d)) ey ∙ ap (λ c. by x y c) ez)
+
+pub ramp_refused : (name : List ℕ) (d : Domain) (s : Slopes) (offset : ℤ) (r : Result (Description × Plane) MakingFault) (f : MakingFault) → ramp_fault name (extents d) (gradient s) offset ≡ Some f → r ≡ Err f →
+    DescribedRamp (ramp_fault name (extents d) (gradient s) offset) name d s offset r
+ramp_refused name d s offset r f e h = subst (λ x. DescribedRamp x name d s offset r) (sym e) h
+
+pub ramp_described : (name : List ℕ) (d : Domain) (s : Slopes) (offset : ℤ) (a : Description) (p : Plane) → ramp_fault name (extents d) (gradient s) offset ≡ None →
+    AskedFor name d (ramp_kind (gradient s) offset (extents d)) false a → p.slopes ≡ s → p.offset ≡ offset → DescribedRamp (ramp_fault name (extents d) (gradient s) offset) name d s offset (Ok (a, p))
+ramp_described name d s offset a p e asked u v = subst (λ f. DescribedRamp f name d s offset (Ok (a, p))) (sym e) (a, p, refl, asked, u, v)
+
+pub ramp_answer : (P : Description × Plane → Type 0) (f : Option MakingFault) (name : List ℕ) (d : Domain) (s : Slopes) (offset : ℤ) (r : Result (Description × Plane) MakingFault) (t : Result (Unit {0}) MakingFault) →
+    DescribedRamp f name d s offset r → is_ok t ≡ is_ok r → MatchResult r P (λ e. t ≡ Err e) → t ≡ answer_of f
+ramp_answer P None name d s offset r t h v m = answer_by P None r t (λ _. ap is_ok h.2) (λ g e. absurd (none_some e)) v m
+ramp_answer P (Some f) name d s offset r t h v m =
+    answer_by P (Some f) r t (λ e. absurd (none_some (sym e))) (λ g e. let same : f ≡ g = cc in h ∙ (let err : MakingFault → Result (Description × Plane) MakingFault = λ x. Err x in ap err same)) v m
+
+ok_same : (x y : Description × Plane) → ◌≡◌ {A = Result (Description × Plane) MakingFault} (Ok x) (Ok y) → x ≡ y
+ok_same x y e = cc
+
+-- an allowed making keeps the laws of the ramp, and makes what was asked for
+pub ramp_made : (name : List ℕ) (d : Domain) (s : Slopes) (offset : ℤ) (a : Description) (p : Plane) → DescribedRamp (ramp_fault name (extents d) (gradient s) offset) name d s offset (Ok (a, p)) →
+    (ramp_keeps (gradient p.slopes) p.offset a ≡ true)
+    × MadeFixed (ramp_fault name (extents d) (gradient s) offset) name d (ramp_kind (gradient s) offset (extents d)) (ramp_cells (gradient s) offset) (ramp_meaning (Some a) (gradient p.slopes) p.offset)
+ramp_made name d s offset a p h = go (ramp_fault name (extents d) (gradient s) offset) refl h
+  where
+    go : (f : Option MakingFault) → ramp_fault name (extents d) (gradient s) offset ≡ f → DescribedRamp f name d s offset (Ok (a, p)) →
+        (ramp_keeps (gradient p.slopes) p.offset a ≡ true) × MadeFixed f name d (ramp_kind (gradient s) offset (extents d)) (ramp_cells (gradient s) offset) (ramp_meaning (Some a) (gradient p.slopes) p.offset)
+    go None is h =
+        let same = ok_same (a, p) (h.0, h.1) h.2 in
+        let about : a ≡ h.0 = ap (λ x. x.0) same in
+        let plane : p ≡ h.1 = ap (λ x. x.1) same in
+        let g : gradient p.slopes ≡ gradient s = ap gradient (ap (λ (x : Plane). x.slopes) plane ∙ h.4) in
+        let o : p.offset ≡ offset = ap (λ (x : Plane). x.offset) plane ∙ h.5 in
+        let asked = subst (AskedFor name d (ramp_kind (gradient s) offset (extents d)) false) (sym about) h.3 in
+        let make : Gradient → ℤ → Domain → List Coverage = λ x v e. (record { about = a; cell = ramp_cells x v (extents e) }) ∷ [] in (
+          ap₂ (λ x v. ramp_keeps x v a) g o ∙ ramp_kept name d (gradient s) offset a (ramp_allowed name (extents d) (gradient s) offset is) asked,
+          record { about = a; asked = asked; only = ap₂ (λ x v. make x v a.domain) g o ∙ ap (make (gradient s) offset) asked.domained },
+        )
+    go (Some f) is h = cc
+
+-- a refused one makes no coverage
+pub ramp_unmade : (f : Option MakingFault) (name : List ℕ) (d : Domain) (s : Slopes) (offset : ℤ) (g : MakingFault) (k : Kind) (cell : CellsOf) → DescribedRamp f name d s offset (Err g) → MadeFixed f name d k cell []
+ramp_unmade None name d s offset g k cell h = let e = h.2 in cc
+ramp_unmade (Some f) name d s offset g k cell h = refl

@@ -1,19 +1,21 @@
 -- A shelf of one coverage or none: its calls by the description, the laws of a fixed one, and its making.
 use Rattle.std.proofs.Common.{◌≡◌, ℕ, zero, suc, Bool, true, false, cond, List, [], ◌∷◌, ℤ, Some, None, Ok, Err, Option, Result, sym, refl, ap, ◌∙◌, subst, arith}
+use Rattle.std.specs.Option.{option_map_or}
+use Rattle.std.specs.Result.{result_ok}
 use borrow.Author.Tests.{clash, not-true}
 use Rattle.coverage.specs.declared.kind.Kind.{Kind}
 use Rattle.coverage.specs.declared.description.Description.{Description}
 use Rattle.coverage.specs.Axes.{Domain, Coordinates, extents, inside_b}
 use Rattle.coverage.specs.Kinds.{Within}
-use Rattle.coverage.specs.Limits.{describable, is_name}
+use Rattle.coverage.specs.Limits.{describable}
 use Rattle.coverage.proofs.Bools.{and_left, and_right, by_test}
 use Rattle.shelf.specs.declared.fault.MakingFault.{MakingFault}
 use Rattle.shelf.specs.declared.fault.ShelfFault.{ShelfFault}
 use Rattle.shelf.specs.declared.fault.ShelfFault.TheVariants.{Outside}
 use Rattle.shelf.specs.Meaning.{Coverage, describe_answer, look_answer, settled, strip_after, strip_answer, strip_fault}
-use Rattle.shelf.specs.Laws.{Lawful}
+use Rattle.shelf.specs.Laws.{Lawful, LawfulCoverage}
 use Rattle.shelf.proofs.Single.{none_lawful, one_lawful, refused_is}
-use Rattle.shelf_laws.specs.Single.{Asked, AskedFor, CellsOf, MadeFixed, fixed_fault, fixed_ok, held, reached, single}
+use Rattle.shelf_laws.specs.Single.{CellsOf, Described, MadeFixed, fixed_fault, fixed_in, fixed_ok, held, reached, single}
 
 -- ---- calls
 
@@ -57,50 +59,52 @@ reached_in_lem (Some b) zero p a e =
     absurd (let z : ◌≡◌ {A = ℕ} 0 1 = cc in omega arith))
 reached_in_lem (Some b) (suc c) p a e = absurd (let z : ◌≡◌ {A = ℕ} 0 1 = cc in omega arith)
 
-fixed_fault_lem : (o : Option Description) (cell : CellsOf) (c n : ℕ) (row : List ℤ) → fixed_ok o ≡ true → strip_fault (single o cell) c n row ≡ Some (fixed_fault o c n)
+fixed_fault_lem : (o : Option Description) (cell : CellsOf) (c n : ℕ) (row : List ℤ) → ((a : Description) → o ≡ Some a → a.receives ≡ false) → strip_fault (single o cell) c n row ≡ Some (fixed_fault o c n)
 fixed_fault_lem None cell zero n row h = refl
 fixed_fault_lem None cell (suc c) n row h = refl
-fixed_fault_lem (Some a) cell zero n row h = rw (not-true a.receives (and_right (describable a) _ h)) refl
+fixed_fault_lem (Some a) cell zero n row h = rw (h a refl) refl
 fixed_fault_lem (Some a) cell (suc c) n row h = refl
 
 -- a fixed coverage takes no strip, and stays
-pub strip_fixed : (o : Option Description) (cell : CellsOf) (c n : ℕ) (row : List ℤ) → fixed_ok o ≡ true →
-    (Err (fixed_fault o c n) ≡ strip_answer (single o cell) c n row) × (single o cell ≡ strip_after (single o cell) c n row)
-strip_fixed o cell c n row h = refused_is (single o cell) c n row (fixed_fault o c n) (fixed_fault_lem o cell c n row h)
+pub strip_fixed : (o : Option Description) (cell : CellsOf) (c n : ℕ) (row : List ℤ) (r : Result Description ShelfFault) → ((a : Description) → o ≡ Some a → a.receives ≡ false) → held o c n ≡ r →
+    (Err (fixed_in r c n) ≡ strip_answer (single o cell) c n row) × (single o cell ≡ strip_after (single o cell) c n row)
+strip_fixed o cell c n row r h e =
+    refused_is (single o cell) c n row (fixed_in r c n)
+    (fixed_fault_lem o cell c n row h ∙ (let some : Result Description ShelfFault → Option ShelfFault = λ x. Some (fixed_in x c n) in ap some e))
 
 -- ---- laws
 
 pub described_by : (a : Description) → fixed_ok (Some a) ≡ true → describable a ≡ true
 described_by a h = and_left (describable a) _ h
 
-pub fixed_lawful : (o : Option Description) (cell : CellsOf) → fixed_ok o ≡ true →
-    ((a : Description) → o ≡ Some a → (p : Coordinates) → inside_b (extents a.domain) p ≡ true → Within a.kind (cell (extents a.domain) (settled (extents a.domain) p))) →
-    Lawful (single o cell)
-fixed_lawful None cell h f = none_lawful
-fixed_lawful (Some a) cell h f =
-    let fixed = not-true a.receives (and_right (describable a) _ h) in
-    one_lawful _ (record {
-      described = described_by a h;
-      cells_fit = f a refl;
-      strips_whole = λ r n l p q e g. absurd (clash (sym fixed ∙ r));
-    })
+pub fixed_by : (a : Description) → fixed_ok (Some a) ≡ true → a.receives ≡ false
+fixed_by a h = not-true a.receives (and_right (describable a) _ h)
+
+-- a fixed coverage is lawful whose cells are of its kind
+pub fixed_lawful : (a : Description) (cell : CellsOf) → fixed_ok (Some a) ≡ true →
+    ((p : Coordinates) → inside_b (extents a.domain) p ≡ true → Within a.kind (cell (extents a.domain) (settled (extents a.domain) p))) →
+    LawfulCoverage (record { about = a; cell = cell (extents a.domain) })
+fixed_lawful a cell h f = record {
+  described = described_by a h;
+  cells_fit = f;
+  strips_whole = λ r n l p q e g. absurd (clash (sym (fixed_by a h) ∙ r));
+}
+
+-- what a shelf keeps where it has a coverage
+pub kept_by : (test : Description → Bool) (o : Option Description) (a : Description) → option_map_or test o true ≡ true → o ≡ Some a → test a ≡ true
+kept_by test o a h e = ap (λ x. option_map_or test x true) (sym e) ∙ h
+
+-- a shelf is lawful whose coverage is, where it has one
+pub single_lawful : (o : Option Description) (cell : CellsOf) → ((a : Description) → o ≡ Some a → LawfulCoverage (record { about = a; cell = cell (extents a.domain) })) → Lawful (single o cell)
+single_lawful None cell h = none_lawful
+single_lawful (Some a) cell h = one_lawful _ (h a refl)
 
 -- ---- makings
 
--- what holds of every description that was asked for holds of the one that is there
-pub asked_all : (P : Option Description → Type 0) (name : List ℕ) (d : Domain) (k : Kind) (receives : Bool) (o : Option Description) → is_name name ≡ true →
-    Asked (is_name name) name d k receives o → ((a : Description) → AskedFor name d k receives a → P (Some a)) → P o
-asked_all P name d k receives o n h f =
-    let g = subst (λ b. Asked b name d k receives o) n h in
-    subst P (sym g.1) (f g.0 g.2)
-
-pub made_fixed : (f : Option MakingFault) (name : List ℕ) (d : Domain) (k : Kind) (cell : CellsOf) (o : Option Description) → f ≡ None → is_name name ≡ true →
-    Asked (is_name name) name d k false o → MadeFixed f name d k cell (single o cell)
-made_fixed f name d k cell o e n h =
-    let make : Description → Domain → List Coverage = λ a x. (record { about = a; cell = cell (extents x) }) ∷ [] in
-    subst (λ x. MadeFixed x name d k cell (single o cell)) (sym e)
-    (asked_all (λ x. MadeFixed None name d k cell (single x cell)) name d k false o n h
-    (λ a g. record { about = a; asked = g; only = ap (make a) g.domained }))
-
-pub refused_fixed : (f : Option MakingFault) (g : MakingFault) (name : List ℕ) (d : Domain) (k : Kind) (cell : CellsOf) → f ≡ Some g → MadeFixed f name d k cell []
-refused_fixed f g name d k cell e = subst (λ x. MadeFixed x name d k cell []) (sym e) refl
+-- an allowed making has what is described, and a refused one nothing
+pub made_fixed : (f : Option MakingFault) (name : List ℕ) (d : Domain) (k : Kind) (cell : CellsOf) (r : Result Description MakingFault) →
+    Described f name d k false r → MadeFixed f name d k cell (single (result_ok r) cell)
+made_fixed None name d k cell r h =
+    let make : Domain → List Coverage = λ x. (record { about = h.0; cell = cell (extents x) }) ∷ [] in
+    record { about = h.0; asked = h.2; only = ap (λ x. single (result_ok x) cell) h.1 ∙ ap make h.2.domained }
+made_fixed (Some f) name d k cell r h = ap (λ x. single (result_ok x) cell) h

@@ -1,13 +1,15 @@
 -- The calls of a window, by those of the shelf below.
-use Rattle.std.proofs.Common.{◌≡◌, ℕ, zero, suc, ◌<◌, ◌≤◌, Bool, true, false, cond, ◌&&◌, eqb, ltb, List, [], ◌∷◌, length, ℤ, Some, None, Ok, Err, Option, Result, sym, refl, ap, ◌∙◌, ap₂, arith, le-ltb, lt-ltb}
+use Rattle.std.proofs.Common.{◌≡◌, ℕ, zero, suc, ◌<◌, ◌≤◌, Bool, true, false, cond, ◌&&◌, eqb, ltb, List, [], ◌∷◌, length, ℤ, Some, None, Ok, Err, Option, Result, sym, refl, ap, ◌∙◌, subst, ap₂, arith, le-ltb, lt-ltb}
 use Rattle.std.specs.List.{slice_get}
+use mir.Val.{bool_byte}
+use Rattle.std.specs.Result.{is_ok, result_ok, MatchResult}
 use Rattle.coverage.specs.declared.axis.Axis.TheVariants.{X}
 use Rattle.coverage.specs.Axes.{Coordinates, inside_b, size_of}
 use Rattle.coverage.specs.Strips.{row_width, strips}
 use Rattle.shelf.specs.declared.fault.ShelfFault.{ShelfFault}
 use Rattle.shelf.specs.declared.fault.ShelfFault.TheVariants.{AlreadyThere, Fixed, NoCoverage, NoStrip, Outside, Unfit}
 use Rattle.shelf.specs.declared.fault.MakingFault.{MakingFault}
-use Rattle.shelf.specs.declared.fault.MakingFault.TheVariants.{OutOfBounds, NoCoverage as NoSuch}
+use Rattle.shelf.specs.declared.fault.MakingFault.TheVariants.{OutOfBounds}
 use Rattle.shelf.specs.Faults.{told}
 use Rattle.shelf.specs.Meaning.{Coverage, after_of, all_fit, answer_of, cell_at, describe_answer, described, domain_of, edited, fault_at, first, look_answer, looked, put_strip, strip_after, strip_answer, strip_fault, strip_there}
 use Rattle.shelf.specs.Laws.{LawfulCoverage}
@@ -15,8 +17,8 @@ use Rattle.shelf.proofs.Numbers.{answer_told, tests_told, told_fault}
 use Rattle.shelf.proofs.Single.{refused_is}
 use Rattle.shelf_laws.specs.declared.cut.Cut.{Cut}
 use Rattle.shelf_laws.specs.declared.cut.View.{View}
-use Rattle.shelf_laws.specs.Making.{answer_of as making_answer}
-use Rattle.shelf_laws.specs.Window.{cut_fits, fault_on, seen, seen_on, strip_below, view_on, window_meaning}
+use Rattle.shelf_laws.specs.Window.{cut_fits, fault_on, seen, seen_on, seen_under, strip_below, view_on, window_meaning}
+use Rattle.shelf_laws.proofs.Makings.{answer_by, none_some}
 use Rattle.shelf_laws.proofs.Windows.{seen_below, seen_cell, seen_inside, seen_put, seen_there, x_uncut}
 
 -- ---- what a view tells
@@ -167,23 +169,50 @@ look_absent w i p e = sym (ap (λ o. looked o i p) e)
 pub strip_absent : (w : List Coverage) (i n : ℕ) (cs : List ℤ) → slice_get w i ≡ None → (Err (NoCoverage i n) ≡ strip_answer w i n cs) × (w ≡ strip_after w i n cs)
 strip_absent w i n cs e = refused_is w i n cs (NoCoverage i n) (ap (λ o. fault_at o i n cs) e)
 
+-- what a call sees, and that it sees nothing
+pub seen_shown : (r : Result View MakingFault) (i n : ℕ) (v : View) → seen_under r i n ≡ Ok v → (Ok v ≡ r) × (i ≡ 0)
+seen_shown (Ok u) zero n v e = (sym e', refl)
+  where
+    e' : ◌≡◌ {A = Result View MakingFault} (Ok u) (Ok v)
+    e' = let same : u ≡ v = cc in let ok : View → Result View MakingFault = λ x. Ok x in ap ok same
+seen_shown (Ok u) (suc i) n v e = cc
+seen_shown (Err f) i n v e = cc
+
+pub unseen : (m : List Coverage) (c : ℕ) (cut : Cut) (i n : ℕ) (f : ShelfFault) → seen_under (view_on (slice_get m c) c cut) i n ≡ Err f → (f ≡ NoCoverage i n) × (slice_get (window_meaning m c cut) i ≡ None)
+unseen m c cut i n f h = go (view_on (slice_get m c) c cut) i refl h
+  where
+    go : (r : Result View MakingFault) (j : ℕ) → view_on (slice_get m c) c cut ≡ r → seen_under r j n ≡ Err f → (f ≡ NoCoverage j n) × (slice_get (window_meaning m c cut) j ≡ None)
+    go (Ok u) zero is e = cc
+    go (Ok u) (suc j) is e = (cc, past m c cut (suc j) (λ z. let q : suc j ≡ 0 = z in omega arith))
+    go (Err g) j is e = (cc, hidden_at m c cut j g (sym is))
+
+abbrev view_of : Coverage → Cut → Result View MakingFault
+view_of k cut = Ok (record { whole = k.about.domain; about = (seen k cut).about })
+
+pub window_counted : (o : Option Coverage) (c : ℕ) (cut : Cut) → bool_byte (is_ok (view_on o c cut)) ≡ length (seen_on o cut)
+window_counted None c cut = refl
+window_counted (Some k) c cut = go (cut_fits (domain_of k) cut)
+  where
+    go : (b : Bool) → bool_byte (is_ok (cond b (view_of k cut) (Err OutOfBounds))) ≡ length (cond b (seen k cut ∷ []) [])
+    go true = refl
+    go false = refl
+
+-- the same by the option of a view
+pub shown_by : (r : Result View MakingFault) (v : View) → result_ok r ≡ Some v → Ok v ≡ r
+shown_by (Ok u) v e = let same : v ≡ u = cc in let ok : View → Result View MakingFault = λ x. Ok x in ap ok same
+shown_by (Err f) v e = cc
+
+pub hidden_by : (r : Result View MakingFault) → result_ok r ≡ None → (f : MakingFault) × (Err f ≡ r)
+hidden_by (Ok u) e = cc
+hidden_by (Err f) e = (f, refl)
+
 -- ---- the call before the making
 
-pub window_allowed : (o : Option Coverage) (c : ℕ) (cut : Cut) (v : View) → Ok v ≡ view_on o c cut → Ok tt ≡ making_answer (fault_on o c cut)
-window_allowed None c cut v h = absurd (let z : ◌≡◌ {A = ℕ} 0 1 = cc in omega arith)
-window_allowed (Some k) c cut v h = go (cut_fits (domain_of k) cut) h
+pub window_answer : (P : View → Type 0) (o : Option Coverage) (c : ℕ) (cut : Cut) (r : Result View MakingFault) (s : Result (Unit {0}) MakingFault) → r ≡ view_on o c cut → is_ok s ≡ is_ok r → MatchResult r P (λ e. s ≡ Err e) →
+    s ≡ answer_of (fault_on o c cut)
+window_answer P None c cut r s e v m = subst (λ x. MatchResult x P (λ f. s ≡ Err f)) e m
+window_answer P (Some k) c cut r s e v m = go (cut_fits (domain_of k) cut) (v ∙ ap is_ok e) (subst (λ x. MatchResult x P (λ f. s ≡ Err f)) e m)
   where
-    go : (b : Bool) → Ok v ≡ cond b (Ok (record { whole = k.about.domain; about = (seen k cut).about })) (Err OutOfBounds) → Ok tt ≡ making_answer (cond b None (Some OutOfBounds))
-    go true e = refl
-    go false e = absurd (let z : ◌≡◌ {A = ℕ} 0 1 = cc in omega arith)
-
-pub window_refused : (o : Option Coverage) (c : ℕ) (cut : Cut) (f : MakingFault) → Err f ≡ view_on o c cut → Err f ≡ making_answer (fault_on o c cut)
-window_refused None c cut f h = let e : f ≡ NoSuch c = cc in let err : MakingFault → Result (Unit {0}) MakingFault = λ x. Err x in ap err e
-window_refused (Some k) c cut f h = go (cut_fits (domain_of k) cut) h
-  where
-    view_of : View
-    view_of = record { whole = k.about.domain; about = (seen k cut).about }
-
-    go : (b : Bool) → Err f ≡ cond b (Ok view_of) (Err OutOfBounds) → Err f ≡ making_answer (cond b None (Some OutOfBounds))
-    go true e = absurd (let z : ◌≡◌ {A = ℕ} 0 1 = cc in omega arith)
-    go false e = let q : f ≡ OutOfBounds = cc in let err : MakingFault → Result (Unit {0}) MakingFault = λ x. Err x in ap err q
+    go : (b : Bool) → is_ok s ≡ is_ok (cond b (view_of k cut) (Err OutOfBounds)) → MatchResult (cond b (view_of k cut) (Err OutOfBounds)) P (λ e. s ≡ Err e) → s ≡ answer_of (cond b None (Some OutOfBounds))
+    go true v m = answer_by P None (view_of k cut) s (λ _. refl) (λ g e. absurd (none_some e)) v m
+    go false v m = m

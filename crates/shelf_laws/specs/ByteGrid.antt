@@ -1,5 +1,5 @@
 -- The byte grid: one fixed coverage in the caller's bytes, each cell at its number.
-use Rattle.std.specs.Prelude.{ℕ, Bool, true, cond, ◌&&◌, List, ℤ, pos, Some, None, Option, ◌==◌, int_le, nat_le, slice_index}
+use Rattle.std.specs.Prelude.{ℕ, Bool, true, cond, ◌&&◌, List, length, ℤ, pos, Some, None, Option, ◌==◌, int_le, nat_le, slice_index}
 use Rattle.coverage.specs.declared.kind.Kind.{Kind}
 use Rattle.coverage.specs.declared.kind.Kind.TheVariants.{Number}
 use Rattle.coverage.specs.declared.description.Description.{Description}
@@ -9,7 +9,8 @@ use Rattle.coverage.specs.Limits.{bounded, few, is_name}
 use Rattle.shelf.specs.declared.fault.MakingFault.{MakingFault}
 use Rattle.shelf.specs.declared.fault.MakingFault.TheVariants.{NoName, OutOfBounds, ManyCells, WrongLength}
 use Rattle.shelf.specs.Meaning.{Coverage}
-use Rattle.shelf_laws.specs.Single.{CellsOf, single}
+use Rattle.shelf_laws.specs.Grid.{length_ok}
+use Rattle.shelf_laws.specs.Single.{CellsOf, fixed_ok, single}
 
 -- values lie in the span 0 to 254
 abbrev pub byte_kind : Kind
@@ -29,6 +30,10 @@ byte_meaning o bs = single o (byte_cells bs)
 abbrev pub takes_bytes : Option Description → Bool
 takes_bytes None = true
 takes_bytes (Some a) = int_le (low a.kind) (pos 0) && int_le (pos 254) (high a.kind)
+
+-- what a byte grid keeps: a fixed coverage of such a kind, and a byte for each cell
+abbrev pub byte_keeps : List ℕ → Description → Bool
+byte_keeps bs a = fixed_ok (Some a) && (takes_bytes (Some a) && length_ok (Some a) (length bs))
 
 -- which making is refused: no name; an axis with its ends out of order or out of bounds, or x
 -- missing; too many cells; another number of bytes than of cells

@@ -1,5 +1,6 @@
 -- The received grid: what its cells mean, and the laws that its memory keeps.
-use Rattle.std.specs.Prelude.{◌≡◌, ℕ, ◌*◌, ◌/◌, Bool, true, cond, not, ◌&&◌, ◌||◌, List, [], ◌∷◌, ℤ, pos, negsuc, Some, None, Option, ◌==◌, slice_index_or}
+use Rattle.std.specs.Prelude.{◌≡◌, ℕ, zero, suc, length, ◌*◌, ◌/◌, Bool, true, cond, not, ◌&&◌, ◌||◌, List, [], ◌∷◌, ℤ, pos, negsuc, Some, None, Option, ◌==◌, slice_index_or}
+use Rattle.std.specs.List.{list_all}
 use Rattle.coverage.specs.declared.kind.Kind.{Kind}
 use Rattle.coverage.specs.declared.description.Description.{Description}
 use Rattle.coverage.specs.Axes.{Domain, cells, extents, inside_b, number_at, same_z}
@@ -8,6 +9,7 @@ use Rattle.coverage.specs.Limits.{describable, name_bytes}
 use Rattle.coverage.specs.Strips.{row_width}
 use Rattle.shelf.specs.declared.fault.MakingFault.{MakingFault}
 use Rattle.shelf.specs.Meaning.{Coverage}
+use Rattle.shelf_laws.specs.Single.{CellsOf, single}
 
 -- the number that stands for null
 abbrev pub null : ℤ
@@ -19,17 +21,17 @@ is_null v = same_z v null
 abbrev pub known : ℤ → Option ℤ
 known v = cond (is_null v) None (Some v)
 
--- the coverage that cells stand for: each cell at its number
+-- each cell stands at its number
+abbrev pub grid_cells : List ℤ → CellsOf
+grid_cells cs d p = cond (inside_b d p) (known (slice_index_or cs (number_at d p) (pos 0))) None
+
+-- the coverage that cells stand for
 abbrev pub grid_coverage : Description → List ℤ → Coverage
-grid_coverage a cs = record {
-  about = a;
-  cell = λ p. cond (inside_b (extents a.domain) p) (known (slice_index_or cs (number_at (extents a.domain) p) (pos 0))) None;
-}
+grid_coverage a cs = record { about = a; cell = grid_cells cs (extents a.domain) }
 
 -- made against a refusal a grid has no coverage
 abbrev pub grid_meaning : Option Description → List ℤ → List Coverage
-grid_meaning None cs = []
-grid_meaning (Some a) cs = grid_coverage a cs ∷ []
+grid_meaning o cs = single o (grid_cells cs)
 
 -- ---- the laws of the memory, each a test; they ask nothing where there is no coverage
 
@@ -55,6 +57,18 @@ row_ok (Some a) cs i =
     cond (is_null (slice_index_or cs i (pos 0)))
     (is_null (slice_index_or cs (i / row_width (extents a.domain) * row_width (extents a.domain)) (pos 0)))
     (not (is_null (slice_index_or cs (i / row_width (extents a.domain) * row_width (extents a.domain)) (pos 0))))
+
+-- a test passes at each number below n
+abbrev pub each_below : (ℕ → Bool) → ℕ → Bool
+each_below f zero = true
+each_below f (suc n) = f n && each_below f n
+
+-- these laws together
+abbrev pub grid_keeps : List ℤ → Description → Bool
+grid_keeps cs a =
+    about_ok (Some a)
+    && (length_ok (Some a) (length cs)
+    && (list_all (cell_ok (Some a)) cs && each_below (row_ok (Some a) cs) (length cs)))
 
 -- ---- what a making makes
 

@@ -5,3 +5,4 @@ pub mod Window
 pub mod Single
 pub mod ByteGrid
 pub mod Ramp
+pub mod RampMaking

@@ -1,5 +1,5 @@
 -- Which making of a shelf is refused, and why: the tests in their order.
-use Rattle.std.specs.Prelude.{ℕ, cond, ◌&&◌, List, Some, None, Ok, Err, Option, Result, ◌==◌}
+use Rattle.std.specs.Prelude.{ℕ, cond, ◌&&◌, List, Some, None, Option, ◌==◌}
 use Rattle.coverage.specs.declared.kind.Kind.{Kind}
 use Rattle.coverage.specs.Axes.{Extents, cells}
 use Rattle.coverage.specs.Limits.{bounded, few, is_name, kind_narrow, kind_ordered}
@@ -19,7 +19,3 @@ grid_fault name d k length =
     (Some WideSpan))
     (Some OutOfBounds))
     (Some NoName)
-
-abbrev pub answer_of : Option MakingFault → Result (Unit {0}) MakingFault
-answer_of None = Ok tt
-answer_of (Some f) = Err f

@@ -14,7 +14,7 @@ use Rattle.coverage.specs.Limits.{bounded, few, is_name}
 use Rattle.shelf.specs.declared.fault.MakingFault.{MakingFault}
 use Rattle.shelf.specs.declared.fault.MakingFault.TheVariants.{NoName, OutOfBounds, ManyCells}
 use Rattle.shelf.specs.Meaning.{Coverage}
-use Rattle.shelf_laws.specs.Single.{CellsOf, single}
+use Rattle.shelf_laws.specs.Single.{CellsOf, fixed_ok, single}
 
 -- slopes by what they give each axis
 abbrev pub Gradient : Type 0
@@ -102,6 +102,10 @@ ramp_ok None g offset = true
 ramp_ok (Some a) g offset =
     all_mild g && (is_near offset
     && (same_z (low a.kind) (ramp_span g offset (extents a.domain)).lo && same_z (high a.kind) (ramp_span g offset (extents a.domain)).hi))
+
+-- what a ramp keeps: a fixed coverage with those limits and that kind
+abbrev pub ramp_keeps : Gradient → ℤ → Description → Bool
+ramp_keeps g offset a = fixed_ok (Some a) && ramp_ok (Some a) g offset
 
 -- which making is refused: no name; an axis with its ends out of order or out of bounds, x missing, a
 -- slope or the offset out of bounds; too many cells

@@ -54,10 +54,10 @@ pub record AskedFor (name : List ℕ) (d : Domain) (k : Kind) (receives : Bool) 
   pub kinded : a.kind ≡ k
   pub marked : a.receives ≡ receives
 
--- a description that is asked for under a name, or none under what is no name
-abbrev pub Asked : Bool → List ℕ → Domain → Kind → Bool → Option Description → Type 0
-Asked true name d k receives o = (a : Description) × (o ≡ Some a) × AskedFor name d k receives a
-Asked false name d k receives o = o ≡ None
+-- what is described where a making is allowed, and else why it is refused
+abbrev pub Described : Option MakingFault → List ℕ → Domain → Kind → Bool → Result Description MakingFault → Type 0
+Described None name d k receives r = (a : Description) × (r ≡ Ok a) × AskedFor name d k receives a
+Described (Some f) name d k receives r = r ≡ Err f
 
 -- one fixed coverage as it was asked for, with these cells
 pub record OneFixed (name : List ℕ) (d : Domain) (k : Kind) (cell : CellsOf) (m : List Coverage) : Type 0 where

@@ -1,5 +1,5 @@
 -- The window on one coverage of a shelf, cut to a range of y and of t.
-use Rattle.std.specs.Prelude.{ℕ, Bool, true, cond, ◌&&◌, List, [], ◌∷◌, Some, None, Ok, Err, Option, Result, int_le}
+use Rattle.std.specs.Prelude.{ℕ, zero, suc, Bool, true, cond, ◌&&◌, List, [], ◌∷◌, Some, None, Ok, Err, Option, Result, int_le}
 use Rattle.std.specs.List.{slice_get}
 use Rattle.coverage.specs.declared.axis.Axis.{Axis}
 use Rattle.coverage.specs.declared.axis.Axis.TheVariants.{X, Y, T}
@@ -10,6 +10,8 @@ use Rattle.coverage.specs.Limits.{ordered}
 use Rattle.coverage.specs.Strips.{strip_at, strip_first}
 use Rattle.shelf.specs.declared.fault.MakingFault.{MakingFault}
 use Rattle.shelf.specs.declared.fault.MakingFault.TheVariants.{NoCoverage, OutOfBounds}
+use Rattle.shelf.specs.declared.fault.ShelfFault.{ShelfFault}
+use Rattle.shelf.specs.declared.fault.ShelfFault.TheVariants.{NoCoverage as NoSuch}
 use Rattle.shelf.specs.Meaning.{Coverage, domain_of}
 use Rattle.shelf_laws.specs.declared.cut.Cut.{Cut}
 use Rattle.shelf_laws.specs.declared.cut.View.{View}
@@ -72,3 +74,9 @@ strip_below whole part n = strip_at whole (strip_first part n)
 abbrev pub view_on : Option Coverage → ℕ → Cut → Result View MakingFault
 view_on None c cut = Err (NoCoverage c)
 view_on (Some k) c cut = cond (cut_fits (domain_of k) cut) (Ok (record { whole = k.about.domain; about = cut_about k.about cut })) (Err OutOfBounds)
+
+-- what is seen under a number: the window's coverage has number 0
+abbrev pub seen_under : Result View MakingFault → ℕ → ℕ → Result View ShelfFault
+seen_under (Ok v) zero n = Ok v
+seen_under (Ok v) (suc i) n = Err (NoSuch (suc i) n)
+seen_under (Err f) i n = Err (NoSuch i n)

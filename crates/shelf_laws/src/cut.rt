@@ -1,4 +1,4 @@
-ghost use Rattle.shelf_laws.specs.Window.{axis_fits, cut_domain, cut_fits, cut_on, cut_range};
+ghost use Rattle.shelf_laws.specs.Window.{axis_fits, cut_domain, cut_fits, cut_range};
 ghost use Rattle.coverage.specs.Axes.{extents};
 ghost use Rattle.std.specs.Prelude.{◌≡◌};
 
@@ -28,12 +28,8 @@ impl Cut {
     pub fn fits(self, domain: Domain) -> bool
         ensures { result ≡ cut_fits (extents domain) self }
     {
-        for axis in AXES {
-            if !fits_axis(domain.on(axis), self.on(axis)) {
-                return false;
-            }
-        }
-        true
+        AXES.iter()
+            .all(|axis| fits_axis(domain.on(*axis), self.on(*axis)))
     }
 
     /// The domain with the cut made.
@@ -41,9 +37,9 @@ impl Cut {
         ensures { result ≡ cut_domain domain self }
     {
         Domain {
-            x: cut_axis(domain.x, self.on(Axis::X)),
-            y: cut_axis(domain.y, self.on(Axis::Y)),
-            t: cut_axis(domain.t, self.on(Axis::T)),
+            y: domain.y.and(Some(self.y)),
+            t: domain.t.and(Some(self.t)),
+            ..domain
         }
     }
 }
@@ -57,16 +53,6 @@ fn fits_axis(axis: Option<Range>, cut: Option<Range>) -> bool
             && whole.lo <= part.lo
             && part.hi <= whole.hi,
         _ => true,
-    }
-}
-
-/// An axis with the cut made.
-fn cut_axis(axis: Option<Range>, cut: Option<Range>) -> Option<Range>
-    ensures { result ≡ cut_on axis cut }
-{
-    match (axis, cut) {
-        (Some(_), Some(part)) => Some(part),
-        _ => axis,
     }
 }
 

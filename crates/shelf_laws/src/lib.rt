@@ -8,5 +8,6 @@ pub mod rows;
 pub mod slopes;
 
 pub use cut::{Cut, View};
+pub use ramp::Plane;
 pub use rows::Rows;
 pub use slopes::{Slopes, are_mild};

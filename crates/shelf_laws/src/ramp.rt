@@ -9,6 +9,15 @@ use coverage::{AXES, Domain, Point, Range};
 /// The farthest offset of a ramp, on either side of 0.
 const FARTHEST: i64 = 100000000;
 
+/// The cells of a ramp: an offset, and for each axis a slope times the coordinate.
+#[derive(Clone, Copy)]
+pub struct Plane {
+    pub slopes: Slopes,
+    pub offset: i64,
+    ghost mild: { all_mild (gradient slopes) ≡ true },
+    ghost near: { is_near offset ≡ true },
+}
+
 /// Whether an offset lies within ±100,000,000.
 pub fn is_near(offset: i64) -> bool
     ensures { result ≡ is_near offset }
@@ -48,36 +57,34 @@ fn rises(axis: Option<Range>, slope: i64) -> Range
     }
 }
 
-/// The cell of a ramp at a point inside its domain: the offset, and what each axis adds.
-pub fn ramp_value(domain: Domain, slopes: Slopes, offset: i64, at: Point) -> i64
-    requires bounded { bounded (extents domain) ≡ true }
-    requires mild { all_mild (gradient slopes) ≡ true }
-    requires near { is_near offset ≡ true }
-    requires inside { inside_b (extents domain) (coordinates at) ≡ true }
-    ensures { result ≡ ramp_value (gradient slopes) offset (extents domain) (coordinates at) }
-{
-    let mut v = offset;
-    for axis in AXES {
-        v += rise(domain.on(axis), slopes.on(axis), at.on(axis));
+impl Plane {
+    /// The cell at a point inside a domain: the offset, and what each axis adds.
+    pub fn value(self, domain: Domain, at: Point) -> i64
+        requires bounded { bounded (extents domain) ≡ true }
+        requires inside { inside_b (extents domain) (coordinates at) ≡ true }
+        ensures { result ≡ ramp_value (gradient self.slopes) self.offset (extents domain) (coordinates at) }
+    {
+        let mut v = self.offset;
+        for axis in AXES {
+            v += rise(domain.on(axis), self.slopes.on(axis), at.on(axis));
+        }
+        v
     }
-    v
-}
 
-/// The span of a ramp: the lowest and the highest cell over the corners of its domain.
-pub fn ramp_span(domain: Domain, slopes: Slopes, offset: i64) -> Range
-    requires bounded { bounded (extents domain) ≡ true }
-    requires mild { all_mild (gradient slopes) ≡ true }
-    requires near { is_near offset ≡ true }
-    ensures { result ≡ ramp_span (gradient slopes) offset (extents domain) }
-{
-    let mut span = Range {
-        lo: offset,
-        hi: offset,
-    };
-    for axis in AXES {
-        let rises = rises(domain.on(axis), slopes.on(axis));
-        span.lo += rises.lo;
-        span.hi += rises.hi;
+    /// The lowest and the highest cell over the corners of a domain.
+    pub fn span(self, domain: Domain) -> Range
+        requires { bounded (extents domain) ≡ true }
+        ensures { result ≡ ramp_span (gradient self.slopes) self.offset (extents domain) }
+    {
+        let mut span = Range {
+            lo: self.offset,
+            hi: self.offset,
+        };
+        for axis in AXES {
+            let rises = rises(domain.on(axis), self.slopes.on(axis));
+            span.lo += rises.lo;
+            span.hi += rises.hi;
+        }
+        span
     }
-    span
 }

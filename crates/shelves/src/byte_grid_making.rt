@@ -1,12 +1,12 @@
 ghost use Rattle.coverage.specs.Axes.{extents};
+ghost use Rattle.shelf.specs.Meaning.{answer_of};
 ghost use Rattle.shelf_laws.specs.ByteGrid.{byte_cells, byte_grid_fault, byte_kind, byte_meaning};
-ghost use Rattle.shelf_laws.specs.Making.{answer_of};
 ghost use Rattle.shelf_laws.specs.Single.{MadeFixed};
 ghost use Rattle.std.specs.Prelude.{◌≡◌, length};
 
 use crate::byte_grid::ByteGrid;
-use crate::grid_making::check_grid;
-use crate::single::asked;
+use crate::grid_making::describe_grid;
+use crate::single::Single;
 use coverage::{Domain, Kind, Range};
 use shelf::MakingFault;
 
@@ -18,18 +18,15 @@ const BYTES: Kind = Kind::Number(Range { lo: 0, hi: 254 });
 pub fn check_byte_grid(name: &[u8], domain: Domain, length: usize) -> Result<(), MakingFault>
     ensures { result ≡ answer_of (byte_grid_fault name.now (extents domain) length) }
 {
-    check_grid(name, domain, BYTES, length)
+    describe_grid(name, domain, BYTES, false, length).map(|_| ())
 }
 
 /// A byte grid in the caller's bytes; against a refusal, one without a coverage.
 pub fn make_byte_grid<'a>(name: &[u8], domain: Domain, bytes: &'a [u8]) -> ByteGrid<'a>
-    ensures { MadeFixed (byte_grid_fault name.now (extents domain) (length bytes.now)) name.now domain byte_kind (byte_cells bytes.now) (byte_meaning result.about result.bytes.now) }
+    ensures { MadeFixed (byte_grid_fault name.now (extents domain) (length bytes.now)) name.now domain byte_kind (byte_cells bytes.now) (byte_meaning result.about result.cells.now) }
 {
-    if check_byte_grid(name, domain, bytes.len()).is_err() {
-        return ByteGrid { about: None, bytes };
-    }
-    ByteGrid {
-        about: asked(name, domain, BYTES, false),
-        bytes,
+    Single {
+        about: describe_grid(name, domain, BYTES, false, bytes.len()).ok(),
+        cells: bytes,
     }
 }

@@ -21,8 +21,7 @@ impl<'j, 'k, A: Shelf, B: Shelf> Shelf for Join<'j, 'k, A, B> {
     ghost lawful = { λ j. joined_lawful (A.Shelf.meaning j.first.now) (B.Shelf.meaning j.second.now) (A.Shelf.lawful j.first.now) (B.Shelf.lawful j.second.now) };
 
     fn count(&self) -> usize {
-        let n = self.first.count() + self.second.count();
-        n.min(MOST)
+        (self.first.count() + self.second.count()).min(MOST)
     }
 
     fn describe(&self, coverage: usize) -> Result<Description, ShelfFault> {
@@ -33,10 +32,9 @@ impl<'j, 'k, A: Shelf, B: Shelf> Shelf for Join<'j, 'k, A, B> {
         if coverage < k {
             return self.first.describe(coverage);
         }
-        match self.second.describe(coverage - k) {
-            Ok(about) => Ok(about),
-            Err(fault) => Err(fault.renumbered(coverage, 0)),
-        }
+        self.second
+            .describe(coverage - k)
+            .map_err(|fault| fault.renumbered(coverage, 0))
     }
 
     fn find(&self, name: &[u8]) -> Option<usize> {
@@ -44,10 +42,8 @@ impl<'j, 'k, A: Shelf, B: Shelf> Shelf for Join<'j, 'k, A, B> {
             return Some(i);
         }
         let k = self.first.count();
-        match self.second.find(name) {
-            Some(j) => { if k + j < MOST { Some(k + j) } else { None } }
-            None => None,
-        }
+        let j = self.second.find(name)?;
+        (k + j < MOST).then_some(k + j)
     }
 
     fn look(&self, coverage: usize, at: Point) -> Result<Option<i32>, ShelfFault> {
@@ -58,10 +54,9 @@ impl<'j, 'k, A: Shelf, B: Shelf> Shelf for Join<'j, 'k, A, B> {
         if coverage < k {
             return self.first.look(coverage, at);
         }
-        match self.second.look(coverage - k, at) {
-            Ok(cell) => Ok(cell),
-            Err(fault) => Err(fault.renumbered(coverage, 0)),
-        }
+        self.second
+            .look(coverage - k, at)
+            .map_err(|fault| fault.renumbered(coverage, 0))
     }
 }
 
@@ -74,9 +69,8 @@ impl<'j, 'k, A: ReceivingShelf, B: ReceivingShelf> ReceivingShelf for Join<'j, '
         if coverage < k {
             return self.first.strip(coverage, strip, cells);
         }
-        match self.second.strip(coverage - k, strip, cells) {
-            Ok(()) => Ok(()),
-            Err(fault) => Err(fault.renumbered(coverage, strip)),
-        }
+        self.second
+            .strip(coverage - k, strip, cells)
+            .map_err(|fault| fault.renumbered(coverage, strip))
     }
 }

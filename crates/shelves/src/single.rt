@@ -1,33 +1,19 @@
 ghost use Rattle.coverage.specs.Axes.{coordinates};
-ghost use Rattle.coverage.specs.Limits.{is_name};
-ghost use Rattle.shelf.specs.Meaning.{find_answer};
-ghost use Rattle.shelf_laws.specs.Single.{Asked, CellsOf, fixed_fault, held as held_at, reached, single};
-ghost use Rattle.std.specs.Prelude.{◌≡◌, length};
+ghost use Rattle.shelf_laws.proofs.Singles.{kept_by, single_lawful};
+ghost use Rattle.shelf_laws.specs.Single.{held as held_at, reached, single};
+ghost use Rattle.std.specs.Option.{option_map_or};
+ghost use Rattle.std.specs.Prelude.{◌≡◌, true};
 
-use coverage::{Description, Domain, Kind, Name, Point};
-use shelf::ShelfFault;
+use crate::cells::{Cells, FixedCells};
+use coverage::{Description, Point};
+use shelf::{ReceivingShelf, Shelf, ShelfFault};
 
-// A shelf of one coverage, or of none where its making was refused: what its calls answer by the
-// description alone, whatever its cells are.
-
-/// How many coverages there are.
-pub(crate) fn count_held(about: Option<Description>) -> usize
-    ensures { (cell : CellsOf) → result ≡ length (single about cell) }
-{
-    match about {
-        Some(_) => 1,
-        None => 0,
-    }
-}
-
-/// The coverage's number where it has this name.
-pub(crate) fn find_held(about: Option<Description>, name: &[u8]) -> Option<usize>
-    ensures { (cell : CellsOf) → result ≡ find_answer (single about cell) name.now }
-{
-    match about {
-        Some(about) if about.name.is(name) => Some(0),
-        _ => None,
-    }
+/// A shelf of one coverage, which has number 0. Made against a refusal it has none.
+#[derive(Drop)]
+pub struct Single<C: Cells> {
+    pub(crate) about: Option<Description>,
+    pub(crate) cells: C,
+    ghost kept: { option_map_or (C.keeps cells) about true ≡ true },
 }
 
 /// The coverage that a call names.
@@ -38,18 +24,13 @@ pub(crate) fn held(
 ) -> Result<Description, ShelfFault>
     ensures { result ≡ held_at about coverage strip }
 {
-    match about {
-        Some(about) if coverage == 0 => Ok(about),
-        _ => Err(ShelfFault::NoCoverage { coverage, strip }),
-    }
+    about
+        .filter(|_| coverage == 0)
+        .ok_or(ShelfFault::NoCoverage { coverage, strip })
 }
 
 /// The coverage that a look reaches: the one it names, with the point inside.
-pub(crate) fn reach(
-    about: Option<Description>,
-    coverage: usize,
-    at: Point,
-) -> Result<Description, ShelfFault>
+fn reach(about: Option<Description>, coverage: usize, at: Point) -> Result<Description, ShelfFault>
     ensures { result ≡ reached about coverage (coordinates at) }
 {
     let about = held(about, coverage, 0)?;
@@ -59,25 +40,33 @@ pub(crate) fn reach(
     Ok(about)
 }
 
-/// Why a fixed coverage takes no strip: the call names another, or it is fixed.
-pub(crate) fn fixed_fault(about: Option<Description>, coverage: usize, strip: usize) -> ShelfFault
-    ensures { result ≡ fixed_fault about coverage strip }
-{
-    match held(about, coverage, strip) {
-        Ok(_) => ShelfFault::Fixed { coverage, strip },
-        Err(fault) => fault,
+impl<C: Cells> Shelf for Single<C> {
+    ghost meaning = { λ s. single s.about (C.cells s.cells) };
+
+    ghost lawful = { λ s. single_lawful s.about (C.cells s.cells) (λ a is. C.coverage_lawful s.cells a (kept_by (C.keeps s.cells) s.about a s.kept is)) };
+
+    fn count(&self) -> usize {
+        usize::from(self.about.is_some())
+    }
+
+    fn describe(&self, coverage: usize) -> Result<Description, ShelfFault> {
+        held(self.about, coverage, 0)
+    }
+
+    fn find(&self, name: &[u8]) -> Option<usize> {
+        let about = self.about?;
+        about.name.is(name).then_some(0)
+    }
+
+    fn look(&self, coverage: usize, at: Point) -> Result<Option<i32>, ShelfFault> {
+        let about = reach(self.about, coverage, at)?;
+        Ok(self.cells.cell(about, at))
     }
 }
 
-/// The description that is asked for, or none where the text is no name.
-pub(crate) fn asked(name: &[u8], domain: Domain, kind: Kind, receives: bool) -> Option<Description>
-    ensures { Asked (is_name name.now) name.now domain kind receives result }
-{
-    let name = Name::new(name)?;
-    Some(Description {
-        name,
-        domain,
-        kind,
-        receives,
-    })
+impl<C: FixedCells> ReceivingShelf for Single<C> {
+    fn strip(&mut self, coverage: usize, strip: usize, cells: &[i32]) -> Result<(), ShelfFault> {
+        held(self.about, coverage, strip)?;
+        Err(ShelfFault::Fixed { coverage, strip })
+    }
 }

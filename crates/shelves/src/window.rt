@@ -1,6 +1,6 @@
 ghost use Rattle.shelf_laws.proofs.Windows.{window_lawful};
-ghost use Rattle.shelf_laws.specs.Making.{answer_of};
-ghost use Rattle.shelf_laws.specs.Window.{view_on, window_fault, window_meaning};
+ghost use Rattle.shelf.specs.Meaning.{answer_of};
+ghost use Rattle.shelf_laws.specs.Window.{seen_under, view_on, window_fault, window_meaning};
 ghost use Rattle.std.specs.List.{slice_get};
 ghost use Rattle.std.specs.Prelude.{◌≡◌};
 
@@ -21,34 +21,26 @@ pub struct Window<'w, S> {
 fn view<S: Shelf>(below: &S, coverage: usize, cut: Cut) -> Result<View, MakingFault>
     ensures { result ≡ view_on (slice_get (S.Shelf.meaning below.now) coverage) coverage cut }
 {
-    match below.describe(coverage) {
-        Ok(about) => {
-            if !cut.fits(about.domain) {
-                return Err(MakingFault::OutOfBounds);
-            }
-            let seen = Description {
-                name: about.name,
-                domain: cut.of(about.domain),
-                kind: about.kind,
-                receives: about.receives,
-            };
-            Ok(View {
-                whole: about.domain,
-                about: seen,
-            })
-        }
-        Err(_) => Err(MakingFault::NoCoverage { coverage }),
+    let Ok(about) = below.describe(coverage) else {
+        return Err(MakingFault::NoCoverage { coverage });
+    };
+    if !cut.fits(about.domain) {
+        return Err(MakingFault::OutOfBounds);
     }
+    Ok(View {
+        whole: about.domain,
+        about: Description {
+            domain: cut.of(about.domain),
+            ..about
+        },
+    })
 }
 
 /// The call before the making of a window: why it is refused, or nothing.
 pub fn check_window<S: Shelf>(below: &S, coverage: usize, cut: Cut) -> Result<(), MakingFault>
     ensures { result ≡ answer_of (window_fault (S.Shelf.meaning below.now) coverage cut) }
 {
-    match view(below, coverage, cut) {
-        Ok(_) => Ok(()),
-        Err(fault) => Err(fault),
-    }
+    view(below, coverage, cut).map(|_| ())
 }
 
 /// A window on a coverage of the shelf below; against a refusal, one without a coverage. The shelf
@@ -64,68 +56,51 @@ pub fn make_window<'w, S: Shelf>(below: &'w mut S, coverage: usize, cut: Cut) ->
     }
 }
 
+impl<'w, S: Shelf> Window<'w, S> {
+    /// What a call under a number sees; the window's coverage has number 0.
+    fn seen(&self, coverage: usize, strip: usize) -> Result<View, ShelfFault>
+        ensures { result ≡ seen_under (view_on (slice_get (S.Shelf.meaning self.now.below.now) self.now.coverage) self.now.coverage self.now.cut) coverage strip }
+    {
+        view(self.below, self.coverage, self.cut)
+            .ok()
+            .filter(|_| coverage == 0)
+            .ok_or(ShelfFault::NoCoverage { coverage, strip })
+    }
+}
+
 impl<'w, S: Shelf> Shelf for Window<'w, S> {
     ghost meaning = { λ w. window_meaning (S.Shelf.meaning w.below.now) w.coverage w.cut };
 
     ghost lawful = { λ w. window_lawful (S.Shelf.meaning w.below.now) w.coverage w.cut (S.Shelf.lawful w.below.now) };
 
     fn count(&self) -> usize {
-        match view(self.below, self.coverage, self.cut) {
-            Ok(_) => 1,
-            Err(_) => 0,
-        }
+        usize::from(view(self.below, self.coverage, self.cut).is_ok())
     }
 
     fn describe(&self, coverage: usize) -> Result<Description, ShelfFault> {
-        if coverage != 0 {
-            return Err(ShelfFault::NoCoverage { coverage, strip: 0 });
-        }
-        match view(self.below, self.coverage, self.cut) {
-            Ok(view) => Ok(view.about),
-            Err(_) => Err(ShelfFault::NoCoverage { coverage, strip: 0 }),
-        }
+        let view = self.seen(coverage, 0)?;
+        Ok(view.about)
     }
 
     fn find(&self, name: &[u8]) -> Option<usize> {
-        match view(self.below, self.coverage, self.cut) {
-            Ok(view) => {
-                if view.about.name.is(name) {
-                    Some(0)
-                } else {
-                    None
-                }
-            }
-            Err(_) => None,
-        }
+        let view = view(self.below, self.coverage, self.cut).ok()?;
+        view.about.name.is(name).then_some(0)
     }
 
     fn look(&self, coverage: usize, at: Point) -> Result<Option<i32>, ShelfFault> {
-        if coverage != 0 {
-            return Err(ShelfFault::NoCoverage { coverage, strip: 0 });
+        let view = self.seen(coverage, 0)?;
+        if !view.about.domain.contains(at) {
+            return Err(ShelfFault::Outside { coverage });
         }
-        match view(self.below, self.coverage, self.cut) {
-            Ok(view) => {
-                if !view.about.domain.contains(at) {
-                    return Err(ShelfFault::Outside { coverage });
-                }
-                match self.below.look(self.coverage, at) {
-                    Ok(cell) => Ok(cell),
-                    Err(fault) => Err(fault.renumbered(coverage, 0)),
-                }
-            }
-            Err(_) => Err(ShelfFault::NoCoverage { coverage, strip: 0 }),
-        }
+        self.below
+            .look(self.coverage, at)
+            .map_err(|fault| fault.renumbered(coverage, 0))
     }
 }
 
 impl<'w, S: ReceivingShelf> ReceivingShelf for Window<'w, S> {
     fn strip(&mut self, coverage: usize, strip: usize, cells: &[i32]) -> Result<(), ShelfFault> {
-        if coverage != 0 {
-            return Err(ShelfFault::NoCoverage { coverage, strip });
-        }
-        let Ok(view) = view(self.below, self.coverage, self.cut) else {
-            return Err(ShelfFault::NoCoverage { coverage, strip });
-        };
+        let view = self.seen(coverage, strip)?;
         if !view.about.receives {
             return Err(ShelfFault::Fixed { coverage, strip });
         }
@@ -135,9 +110,8 @@ impl<'w, S: ReceivingShelf> ReceivingShelf for Window<'w, S> {
         let below = view
             .whole
             .strip_number(view.about.domain.strip_first(strip));
-        match self.below.strip(self.coverage, below, cells) {
-            Ok(()) => Ok(()),
-            Err(fault) => Err(fault.renumbered(coverage, strip)),
-        }
+        self.below
+            .strip(self.coverage, below, cells)
+            .map_err(|fault| fault.renumbered(coverage, strip))
     }
 }

@@ -15,18 +15,6 @@ ends_fit axis r s e h m =
     let ends = ends_hold r b in
     (fits_64 100000000 (s *ℤ r.lo) (omega arith) (rise_small (Some r) s r.lo b ends.0 m), fits_64 100000000 (s *ℤ r.hi) (omega arith) (rise_small (Some r) s r.hi b ends.1 m))
 
-pub overflow_mul-near : goal.overflow_mul-near
-overflow_mul-near c =
-    let p = ends_fit c.args.axis c.in-Some.range c.args.slope c.in-Some.is c.requires.bounded c.requires.mild in
-    let f : SFits w64 c.in-Some.range.lo = search rules in
-    rw (to_z-of_z w64 c.args.slope c.ranges.slope, to_z-of_z w64 c.in-Some.range.lo f) p.0
-
-pub overflow_mul-far : goal.overflow_mul-far
-overflow_mul-far c =
-    let p = ends_fit c.args.axis c.in-Some.range c.args.slope c.in-Some.is c.requires.bounded c.requires.mild in
-    let f : SFits w64 c.in-Some.range.hi = search rules in
-    rw (to_z-of_z w64 c.args.slope c.ranges.slope, to_z-of_z w64 c.in-Some.range.hi f) p.1
-
 -- the pair as it is made of the products
 made : (r : Range) (s a b : ℤ) → a ≡ int_min (s *ℤ r.lo) (s *ℤ r.hi) → b ≡ int_max (s *ℤ r.lo) (s *ℤ r.hi) → ◌≡◌ {A = Range} (record { lo = a; hi = b }) (rises (Some r) s)
 made r s a b e f = let make : ℤ → ℤ → Range = λ x y. record { lo = x; hi = y } in ap₂ make e f

@@ -1,30 +1,35 @@
-use Rattle.std.proofs.Common.{length, sym}
+use Rattle.std.proofs.Common.{true, false, length, Option, ap, ◌∙◌, subst, sym}
+use Rattle.std.specs.Option.{option_map_or}
+use Rattle.std.specs.Result.{result_ok}
+use Rattle.coverage.specs.declared.description.Description.{Description}
 use Rattle.coverage.specs.Axes.{extents}
-use Rattle.shelf_laws.specs.ByteGrid.{byte_cells, byte_grid_fault, byte_kind}
-use Rattle.shelf_laws.proofs.ByteGrids.{bytes_allowed, bytes_kept}
-use Rattle.shelf_laws.proofs.Makings.{allowed_by, refusal_of_lem}
-use Rattle.shelf_laws.proofs.Singles.{made_fixed, refused_fixed}
+use Rattle.shelf.specs.declared.fault.MakingFault.{MakingFault}
+use Rattle.shelf_laws.specs.ByteGrid.{byte_cells, byte_grid_fault, byte_keeps, byte_kind, byte_meaning}
+use Rattle.shelf_laws.specs.Making.{grid_fault}
+use Rattle.shelf_laws.specs.Single.{MadeFixed}
+use Rattle.shelf_laws.proofs.ByteGrids.{byte_fault_is, bytes_kept}
+use Rattle.shelf_laws.proofs.Makings.{described_passes, grid_allowed}
+use Rattle.shelf_laws.proofs.Singles.{made_fixed}
 use Rattle.shelves.proofs.byte_grid_making.make_byte_grid.Goals as goal
 
-pub returns-then-is_err : goal.returns-then-is_err
-returns-then-is_err c =
-    let f = byte_grid_fault c.args.name.now (extents c.args.domain) (length c.args.bytes.now) in
-    let r = refusal_of_lem f c.check_byte_grid.result c.check_byte_grid.ensures (sym c.if-is_err.ensures.value) in
-    refused_fixed f r.0 c.args.name.now c.args.domain byte_kind (byte_cells c.args.bytes.now) r.1
-
-pub invariant_of-result-2 : goal.invariant_of-result-2
-invariant_of-result-2 c =
+pub invariant_of-result : goal.invariant_of-result
+invariant_of-result c =
     let name = c.args.name.now in
-    let n = length c.args.bytes.now in
-    let f = byte_grid_fault name (extents c.args.domain) n in
-    let none = allowed_by f c.check_byte_grid.result c.check_byte_grid.ensures (sym c.if-is_err.ensures.value) in
-    let k = bytes_kept name c.args.domain n c.asked.result (bytes_allowed name (extents c.args.domain) n none) c.asked.ensures in
-    record { described = k.0; takes = k.1; long = k.2 }
+    let bs = c.args.bytes.now in
+    let d = extents c.args.domain in
+    record {
+      kept =
+          ap (λ o. option_map_or (byte_keeps bs) o true) c.ok.ensures.value
+          ∙ described_passes (byte_keeps bs) (grid_fault name d byte_kind (length bs)) name c.args.domain byte_kind false c.describe_grid.result c.describe_grid.ensures
+          (λ a e s. bytes_kept name c.args.domain bs a (grid_allowed name d byte_kind (length bs) e) s);
+    }
 
 pub returns : goal.returns
 returns c =
     let name = c.args.name.now in
-    let n = length c.args.bytes.now in
-    let f = byte_grid_fault name (extents c.args.domain) n in
-    let none = allowed_by f c.check_byte_grid.result c.check_byte_grid.ensures (sym c.if-is_err.ensures.value) in
-    made_fixed f name c.args.domain byte_kind (byte_cells c.args.bytes.now) c.asked.result none (bytes_allowed name (extents c.args.domain) n none).named c.asked.ensures
+    let bs = c.args.bytes.now in
+    let d = extents c.args.domain in
+    let f = grid_fault name d byte_kind (length bs) in
+    let made = made_fixed f name c.args.domain byte_kind (byte_cells bs) c.describe_grid.result c.describe_grid.ensures in
+    let Made : Option MakingFault → Option Description → Type 0 = λ g o. MadeFixed g name c.args.domain byte_kind (byte_cells bs) (byte_meaning o bs) in
+    subst (Made (byte_grid_fault name d (length bs))) (sym c.ok.ensures.value) (subst (λ g. Made g (result_ok c.describe_grid.result)) (byte_fault_is name d (length bs)) made)

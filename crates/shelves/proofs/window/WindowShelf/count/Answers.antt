@@ -1,14 +1,12 @@
-use Rattle.std.proofs.Common.{length, sym, ap}
-use Rattle.shelf_laws.proofs.WindowCalls.{hidden}
-use Rattle.shelf_laws.proofs.Views.{view_count}
+use Rattle.std.proofs.Common.{ap, ◌∙◌}
+use mir.Val.{bool_byte}
+use Rattle.std.specs.List.{slice_get}
+use Rattle.std.specs.Result.{is_ok}
+use Rattle.shelf_laws.proofs.WindowCalls.{window_counted}
 use Rattle.shelves.proofs.window.WindowShelf.count.Goals as goal
 
-pub returns-in-Ok : goal.returns-in-Ok
-returns-in-Ok g c =
+pub returns : goal.returns
+returns g c =
     let me = c.args.self.now in
-    view_count (g.S.Shelf.meaning me.below.now) me.coverage me.cut c.in-Ok.field-0 c.in-Ok.ensures (g.S.Shelf.lawful me.below.now)
-
-pub returns-in-Err : goal.returns-in-Err
-returns-in-Err g c =
-    let me = c.args.self.now in
-    sym (ap length (hidden (g.S.Shelf.meaning me.below.now) me.coverage me.cut c.in-Err.field-0 c.in-Err.ensures))
+    c.from.ensures
+    ∙ (ap bool_byte (c.is_ok.ensures.value ∙ ap is_ok c.view.ensures) ∙ window_counted (slice_get (g.S.Shelf.meaning me.below.now) me.coverage) me.coverage me.cut)
