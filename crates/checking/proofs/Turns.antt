@@ -6,8 +6,7 @@ use Rattle.coverage.specs.declared.refusal.Refusal.{Refusal}
 use Rattle.coverage.specs.declared.kind.Kind.{Kind}
 use Rattle.coverage.specs.declared.axis.Axis.{Axis}
 use Rattle.coverage.specs.declared.axis.Axis.TheVariants.{X, Y, T}
-use Rattle.coverage.specs.declared.domain.Domain.{Domain}
-use Rattle.coverage.specs.Axes.{Extents, cells, extents, no_extents}
+use Rattle.coverage.specs.Axes.{Domain, Extents, cells, extents, no_extents}
 use Rattle.coverage.specs.Limits.{few}
 use Rattle.language.specs.Faults.{refuse, unless, first, limits_fault, most_reads}
 use Rattle.language.specs.Queries.{Announced}

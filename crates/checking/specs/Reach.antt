@@ -1,8 +1,7 @@
 -- Iterators as the code takes them up.
 use Rattle.std.specs.Prelude.{◌≡◌, List, Ok, Err, Result}
-use Rattle.coverage.specs.declared.domain.Domain.{Domain}
 use Rattle.coverage.specs.declared.refusal.Refusal.{Refusal}
-use Rattle.coverage.specs.Axes.{Extents, extents}
+use Rattle.coverage.specs.Axes.{Domain, Extents, extents}
 use Rattle.syntax.specs.Tree.{Iterator}
 use Rattle.language.specs.Iterators.{iterator_extents, own_axes}
 use Rattle.checking.specs.declared.fault.CheckFault.{CheckFault}

@@ -1,5 +1,6 @@
 pub mod Bools
 pub mod Points
+pub mod Ranges
 pub mod Numbers
 pub mod Caps
 pub mod Loops

@@ -1,30 +1,22 @@
 -- Axes, domains and points: every rule is one recursion over the list of axes.
-use Rattle.std.specs.Prelude.{◌≡◌, ℕ, ◌+◌, ◌*◌, ◌/◌, ◌%◌, ◌<◌, ◌≤◌, Bool, true, false, cond, not, ◌&&◌, List, [], ◌∷◌, ℤ, pos, negsuc, ◌+ℤ◌, ◌-ℤ◌, ◌≤ℤ◌, Some, None, Option, ◌==◌, int_le}
+use Rattle.std.specs.Prelude.{◌≡◌, ℕ, ◌+◌, ◌*◌, ◌/◌, ◌%◌, ◌<◌, ◌≤◌, Bool, true, false, not, ◌&&◌, List, [], ◌∷◌, ℤ, pos, negsuc, ◌+ℤ◌, ◌-ℤ◌, ◌≤ℤ◌, Some, None, Option, int_le}
+use Rattle.std.specs.List.{list_all}
 use Rattle.coverage.specs.declared.range.Range.{Range}
 use Rattle.coverage.specs.declared.axis.Axis.{Axis}
 use Rattle.coverage.specs.declared.axis.Axis.TheVariants.{X, Y, T}
-use Rattle.coverage.specs.declared.domain.Domain.{Domain}
-use Rattle.coverage.specs.declared.domain.Point.{Point}
+use Rattle.coverage.specs.declared.per_axis.PerAxis.{PerAxis}
+pub use Rattle.coverage.specs.Entries.{changed, entry, rank, same_axis}
 
 -- ---- axes
 
 -- the axes across a row, innermost first: a row lies along x, and strip numbers run over these.
--- A further axis is an entry here, a clause of `rank`, and a field of Domain and Point with its clause below.
+-- A further axis is an entry here, a field of PerAxis, and a clause of `rank` and of `entry`.
 abbrev pub across : List Axis
 across = Y ∷ T ∷ []
 
 -- all axes, innermost first
 abbrev pub axes : List Axis
 axes = X ∷ across
-
--- the number of an axis, by which axes are told apart
-abbrev pub rank : Axis → ℕ
-rank X = 0
-rank Y = 1
-rank T = 2
-
-abbrev pub same_axis : Axis → Axis → Bool
-same_axis a b = rank a == rank b
 
 -- ---- domains and points, by what they give each axis
 
@@ -36,15 +28,17 @@ Extents = Axis → Option Range
 abbrev pub Coordinates : Type 0
 Coordinates = Axis → ℤ
 
+abbrev pub Domain : Type 0
+Domain = PerAxis (Option Range)
+
+abbrev pub Point : Type 0
+Point = PerAxis ℤ
+
 abbrev pub extents : Domain → Extents
-extents d X = d.x
-extents d Y = d.y
-extents d T = d.t
+extents d = entry d
 
 abbrev pub coordinates : Point → Coordinates
-coordinates p X = p.x
-coordinates p Y = p.y
-coordinates p T = p.t
+coordinates p = entry p
 
 -- the point with coordinate 0 on every axis
 abbrev pub origin : Coordinates
@@ -55,11 +49,11 @@ abbrev pub no_extents : Extents
 no_extents a = None
 
 abbrev pub set_axis : Extents → Axis → Option Range → Extents
-set_axis d a r b = cond (same_axis a b) r (d b)
+set_axis d a r = changed d a r
 
 -- a point moved along one axis
 abbrev pub put : Coordinates → Axis → ℤ → Coordinates
-put p a v b = cond (same_axis a b) v (p b)
+put p a v = changed p a v
 
 -- ---- one axis
 
@@ -116,8 +110,7 @@ coord_of (Some r) n v = r.lo +ℤ pos (n % width r)
 -- ---- a list of axes
 
 abbrev pub all_over : (Axis → Bool) → List Axis → Bool
-all_over f [] = true
-all_over f (a ∷ rest) = f a && all_over f rest
+all_over f xs = list_all f xs
 
 -- no axis stands twice
 abbrev pub distinct : List Axis → Bool

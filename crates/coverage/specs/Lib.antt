@@ -1,4 +1,6 @@
+pub mod Entries
 pub mod Axes
 pub mod Kinds
 pub mod Strips
 pub mod Limits
+pub mod Written

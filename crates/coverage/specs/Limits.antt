@@ -1,5 +1,6 @@
 -- The limits of what a shelf may hold: names, coordinates, spans and cells.
 use Rattle.std.specs.Prelude.{ℕ, Bool, true, false, not, ◌&&◌, ◌||◌, List, [], ◌∷◌, length, take, pos, negsuc, Some, None, Option, int_le, nat_le}
+use Rattle.std.specs.List.{list_all}
 use Rattle.coverage.specs.declared.axis.Axis.TheVariants.{X}
 use Rattle.coverage.specs.declared.range.Range.{Range}
 use Rattle.coverage.specs.declared.kind.Kind.{Kind}
@@ -20,8 +21,7 @@ abbrev pub is_word_byte : ℕ → Bool
 is_word_byte b = is_letter b || (between 48 b 57 || between 95 b 95)
 
 abbrev pub all_bytes : List ℕ → Bool
-all_bytes [] = true
-all_bytes (b ∷ rest) = is_word_byte b && all_bytes rest
+all_bytes bs = list_all is_word_byte bs
 
 abbrev pub starts_name : List ℕ → Bool
 starts_name [] = false

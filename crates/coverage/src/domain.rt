@@ -1,78 +1,22 @@
 ghost use Rattle.std.specs.Prelude.{◌≡◌, ◌<◌, ◌≤◌, min, true};
-ghost use Rattle.coverage.specs.Axes.{Holds, Inside, Sized, cells as cells_of, cells_over, coord_of, coordinates, distinct, extents, origin, inside_b, number_at, number_over, on_axis, point_at, point_over, put, same_domain, size_of, step_of};
-ghost use Rattle.coverage.specs.Limits.{bounded};
+ghost use Rattle.coverage.specs.Axes.{axes as all_axes, all_over, Holds, Inside, Sized, cells as cells_of, cells_over, coord_of, coordinates, distinct, extents, origin, inside_b, number_at, number_over, on_axis, point_at, point_over, put, same_domain, size_of, step_of};
+ghost use Rattle.coverage.specs.Limits.{axis_bounded, bounded};
 ghost use Rattle.coverage.specs.declared.axis.Axis.{Axis as AnAxis};
 
 use crate::axis::{AXES, Axis};
-use crate::range::{Range, TOO_MANY, coordinate, is_bounded, on_axis, places, same_axis, step};
+use crate::per_axis::PerAxis;
+use crate::range::{Range, TOO_MANY, coordinate, is_bounded, on_axis, places, step};
 
 /// What a coverage reaches over: for each axis a range of coordinates, or none where the axis is absent.
-#[derive(Clone, Copy)]
-pub struct Domain {
-    pub x: Option<Range>,
-    pub y: Option<Range>,
-    pub t: Option<Range>,
-}
+pub type Domain = PerAxis<Option<Range>>;
 
 /// A coordinate for each axis; that of an absent axis is ignored.
-#[derive(Clone, Copy)]
-pub struct Point {
-    pub x: i64,
-    pub y: i64,
-    pub t: i64,
-}
+pub type Point = PerAxis<i64>;
 
 /// The point with coordinate 0 on every axis.
 pub const ORIGIN: Point = Point { x: 0, y: 0, t: 0 };
 
-impl Point {
-    /// The coordinate on an axis.
-    pub fn on(self, axis: Axis) -> i64
-        ensures { result ≡ coordinates self axis }
-    {
-        match axis {
-            Axis::X => self.x,
-            Axis::Y => self.y,
-            Axis::T => self.t,
-        }
-    }
-
-    /// The point moved along an axis to a coordinate.
-    pub fn with(self, axis: Axis, v: i64) -> Point
-        ensures { (a : AnAxis) → coordinates result a ≡ put (coordinates self) axis v a }
-    {
-        match axis {
-            Axis::X => Point {
-                x: v,
-                y: self.y,
-                t: self.t,
-            },
-            Axis::Y => Point {
-                x: self.x,
-                y: v,
-                t: self.t,
-            },
-            Axis::T => Point {
-                x: self.x,
-                y: self.y,
-                t: v,
-            },
-        }
-    }
-}
-
 impl Domain {
-    /// The range of an axis, or none where it is absent.
-    pub fn on(self, axis: Axis) -> Option<Range>
-        ensures { result ≡ extents self axis }
-    {
-        match axis {
-            Axis::X => self.x,
-            Axis::Y => self.y,
-            Axis::T => self.t,
-        }
-    }
-
     /// How many cells, or `TOO_MANY` where there are more than a coverage may have.
     pub fn cells(self) -> usize
         ensures { result ≡ min (cells_of (extents self)) 65537 }
@@ -113,7 +57,8 @@ impl Domain {
     pub fn number_over(self, axes: &[Axis], p: Point) -> usize
         requires inside { Inside (extents self) (coordinates p) }
         requires few { cells_over axes.now (extents self) ≤ 65536 }
-        ensures { (result ≡ number_over axes.now (extents self) (coordinates p)) × (result < cells_over axes.now (extents self)) }
+        ensures number { result ≡ number_over axes.now (extents self) (coordinates p) }
+        ensures below { result < cells_over axes.now (extents self) }
     {
         let mut n = 0;
         let mut stride = 1;
@@ -128,7 +73,8 @@ impl Domain {
     pub fn cell_number(self, p: Point) -> usize
         requires inside { inside_b (extents self) (coordinates p) ≡ true }
         requires few { cells_of (extents self) ≤ 65536 }
-        ensures { (result ≡ number_at (extents self) (coordinates p)) × (result < cells_of (extents self)) }
+        ensures number { result ≡ number_at (extents self) (coordinates p) }
+        ensures below { result < cells_of (extents self) }
     {
         self.number_over(&AXES, p)
     }
@@ -168,38 +114,27 @@ impl Domain {
     pub fn contains(self, p: Point) -> bool
         ensures { result ≡ inside_b (extents self) (coordinates p) }
     {
-        for axis in AXES {
-            if !self.takes(axis, p) {
-                return false;
-            }
-        }
-        true
+        AXES.iter().all(|axis| self.takes(*axis, p))
     }
 
     /// Whether two domains have the same axes with the same ends.
     pub fn is_same(self, other: Domain) -> bool
         ensures { result ≡ same_domain (extents self) (extents other) }
     {
-        for axis in AXES {
-            if !same_axis(self.on(axis), other.on(axis)) {
-                return false;
-            }
-        }
-        true
+        self == other
+    }
+
+    /// Whether each axis that is there is within bounds.
+    fn has_bounded_axes(self) -> bool
+        ensures { result ≡ all_over (λ a. axis_bounded (extents self a)) all_axes }
+    {
+        AXES.iter().all(|axis| is_bounded(self.on(*axis)))
     }
 
     /// Whether the axes may stand on a shelf: x is there, and each is within bounds.
     pub fn is_bounded(self) -> bool
         ensures { result ≡ bounded (extents self) }
     {
-        if self.x.is_none() {
-            return false;
-        }
-        for axis in AXES {
-            if !is_bounded(self.on(axis)) {
-                return false;
-            }
-        }
-        true
+        self.x.is_some() && self.has_bounded_axes()
     }
 }

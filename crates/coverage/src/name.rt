@@ -14,39 +14,28 @@ pub struct Name {
 pub fn is_letter(b: u8) -> bool
     ensures { result ≡ is_letter b }
 {
-    (b'A' <= b && b <= b'Z') || (b'a' <= b && b <= b'z')
+    b.is_ascii_alphabetic()
 }
 
 /// Whether a byte may stand in a word after its first: a letter, a digit or an underscore.
 pub fn is_word_byte(b: u8) -> bool
     ensures { result ≡ is_word_byte b }
 {
-    is_letter(b) || (b'0' <= b && b <= b'9') || b == b'_'
+    b.is_ascii_alphanumeric() || b == b'_'
 }
 
 /// Whether all bytes may stand in a word.
 fn all_word_bytes(text: &[u8]) -> bool
     ensures { result ≡ all_bytes text.now }
 {
-    for b in text {
-        if !is_word_byte(*b) {
-            return false;
-        }
-    }
-    true
+    text.iter().all(|b| is_word_byte(*b))
 }
 
 /// Whether bytes are a name: a letter, and up to 15 more letters, digits or underscores.
 pub fn is_name(text: &[u8]) -> bool
     ensures { result ≡ is_name text.now }
 {
-    if text.len() > 16 {
-        return false;
-    }
-    if text.len() == 0 {
-        return false;
-    }
-    is_letter(text[0]) && all_word_bytes(text)
+    text.len() <= 16 && text.first().is_some_and(|b| is_letter(*b)) && all_word_bytes(text)
 }
 
 impl Name {

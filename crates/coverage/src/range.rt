@@ -3,7 +3,7 @@ ghost use Rattle.coverage.specs.Axes.{Holds, coord_of, in_range, lowest_on, on_a
 ghost use Rattle.coverage.specs.Limits.{axis_bounded, ordered};
 
 /// Whole numbers from a lowest to a highest, both included: coordinates on an axis, or values of a kind.
-#[derive(Clone, Copy)]
+#[derive(Clone, Copy, Debug, PartialEq, Eq)]
 pub struct Range {
     pub lo: i64,
     pub hi: i64,
@@ -49,46 +49,36 @@ impl Range {
 pub fn on_axis(axis: Option<Range>, v: i64) -> bool
     ensures { result ≡ on_axis axis v }
 {
-    match axis {
-        Some(range) => range.holds(v),
-        None => true,
-    }
+    axis.is_none_or(|range| range.holds(v))
 }
 
 /// How many places an axis has, one where it is absent, or `TOO_MANY` where there are more.
 pub fn places(axis: Option<Range>) -> usize
     ensures { result ≡ min (size_of axis) 65537 }
 {
-    match axis {
-        Some(range) => range.count(),
-        None => 1,
-    }
+    axis.map_or(1, |range| range.count())
 }
 
 /// The lowest coordinate of an axis, 0 where it is absent.
 pub fn lowest(axis: Option<Range>) -> i64
     ensures { result ≡ lowest_on axis }
 {
-    match axis {
-        Some(range) => range.lo,
-        None => 0,
-    }
+    axis.map_or(0, |range| range.lo)
 }
 
 /// How far a coordinate stands from the lowest of its axis.
 pub fn step(axis: Option<Range>, v: i64) -> usize
-    requires { (Holds axis v) × (size_of axis ≤ 65536) }
+    requires inside { Holds axis v }
+    requires few { size_of axis ≤ 65536 }
     ensures { result ≡ step_of axis v }
 {
-    match axis {
-        Some(range) => (v - range.lo) as usize,
-        None => 0,
-    }
+    axis.map_or(0, |range| (v - range.lo) as usize)
 }
 
 /// The coordinate `k` places above the lowest of an axis; an absent axis keeps the coordinate `v`.
 pub fn coordinate(axis: Option<Range>, k: usize, v: i64) -> i64
-    requires { (k < size_of axis) × (size_of axis ≤ 65536) }
+    requires below { k < size_of axis }
+    requires few { size_of axis ≤ 65536 }
     ensures { result ≡ coord_of axis k v }
 {
     match axis {
@@ -97,23 +87,9 @@ pub fn coordinate(axis: Option<Range>, k: usize, v: i64) -> i64
     }
 }
 
-/// Whether two axes are both absent or have the same ends.
-pub fn same_axis(a: Option<Range>, b: Option<Range>) -> bool
-    ensures { result ≡ same_range a b }
-{
-    match (a, b) {
-        (None, None) => true,
-        (Some(p), Some(q)) => p.lo == q.lo && p.hi == q.hi,
-        _ => false,
-    }
-}
-
 /// Whether an axis may stand on a shelf: its ends in order and within ±1,000,000, or absent.
 pub fn is_bounded(axis: Option<Range>) -> bool
     ensures { result ≡ axis_bounded axis }
 {
-    match axis {
-        Some(range) => range.is_ordered() && -FARTHEST <= range.lo && range.hi <= FARTHEST,
-        None => true,
-    }
+    axis.is_none_or(|range| { range.is_ordered() && -FARTHEST <= range.lo && range.hi <= FARTHEST })
 }

@@ -54,7 +54,8 @@ impl Domain {
     pub fn strip_number(self, p: Point) -> usize
         requires inside { Inside (extents self) (coordinates p) }
         requires few { strips_of (extents self) ≤ 65536 }
-        ensures { (result ≡ strip_at (extents self) (coordinates p)) × (result < strips_of (extents self)) }
+        ensures number { result ≡ strip_at (extents self) (coordinates p) }
+        ensures below { result < strips_of (extents self) }
     {
         self.number_over(&ACROSS, p)
     }

@@ -1,8 +1,8 @@
 -- What command a line says: how its bytes are made, and what its numerals are told as.
 use Rattle.std.specs.Prelude.{◌≡◌, ℕ, true, List, [], ◌∷◌, ◌++◌, ℤ, Some, None, Ok, Err, codes, Option, Result}
 use Rattle.coverage.specs.declared.range.Range.{Range}
-use Rattle.coverage.specs.declared.domain.Domain.{Domain}
-use Rattle.coverage.specs.declared.domain.Point.{Point}
+use Rattle.coverage.specs.Axes.{Domain}
+use Rattle.coverage.specs.Axes.{Point}
 use Rattle.coverage.specs.declared.kind.Kind.{Kind}
 use Rattle.coverage.specs.declared.kind.Kind.TheVariants.{Truth, Number}
 use Rattle.lines.specs.declared.command.Command.{Command}

@@ -2,10 +2,9 @@
 -- `for $c in (roof) return encode(E, "rows")`, so that E begins at byte 31.
 use Rattle.std.specs.Prelude.{◌≡◌, ℕ, true, List, [], ◌∷◌, ◌++◌, replicate, ℤ, pos, negsuc, Some, None, Ok, Err, codes, Option, Result}
 use Rattle.coverage.specs.declared.axis.Axis.TheVariants.{X}
-use Rattle.coverage.specs.declared.domain.Domain.{Domain}
 use Rattle.coverage.specs.declared.refusal.Refusal.{Refusal}
 use Rattle.coverage.specs.declared.refusal.Returned.TheVariants.{Two}
-use Rattle.coverage.specs.Axes.{Extents, extents, no_extents, set_axis}
+use Rattle.coverage.specs.Axes.{Domain, Extents, extents, no_extents, set_axis}
 use Rattle.shelf.specs.Meaning.{Coverage, strip_after}
 use Rattle.shelf.specs.Faults.{shelf_says}
 use Rattle.syntax.specs.Tree.{Query}

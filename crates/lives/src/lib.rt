@@ -6,7 +6,7 @@
 pub mod cell;
 pub mod laws;
 
-pub use cell::{Cell, cell_of};
+pub use cell::Cell;
 pub use laws::{
     every_call_has_one_answer, every_life_keeps_its_promises, every_run_keeps_its_promises,
     refusals_come_in_turn, such_a_life_is_led, texts_say_what_the_grammar_derives,

@@ -1,8 +1,7 @@
 -- A look is served.
 use Rattle.std.proofs.Common.{◌≡◌, ℕ, List, ℤ, IfOk, Ok, Err, Option, Result, sym, refl, subst, inl}
 use Rattle.std.specs.declared.alloc.AllocError.{AllocError}
-use Rattle.coverage.specs.Axes.{coordinates}
-use Rattle.coverage.specs.declared.domain.Point.{Point}
+use Rattle.coverage.specs.Axes.{Point, coordinates}
 use Rattle.shelf.specs.Meaning.{Coverage, look_answer}
 use Rattle.shelf.specs.declared.fault.ShelfFault.{ShelfFault}
 use Rattle.lines.specs.declared.command.Command.{Command}

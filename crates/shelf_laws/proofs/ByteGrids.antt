@@ -2,10 +2,9 @@
 use Rattle.std.proofs.Common.{◌≡◌, ℕ, Bool, true, false, cond, not, ◌&&◌, eqb, leb, List, get_or, pos, Some, None, Option, sym, refl, ap, ◌∙◌, subst, ap₂, arith, eq-eqb, leb-true}
 use lib.Signed.{le_z}
 use Rattle.std.proofs.lemmas.Int.{ints}
-use Rattle.coverage.specs.declared.domain.Domain.{Domain}
 use Rattle.coverage.specs.declared.kind.Kind.{Kind}
 use Rattle.coverage.specs.declared.description.Description.{Description}
-use Rattle.coverage.specs.Axes.{Coordinates, Extents, cells, extents, inside_b, number_at}
+use Rattle.coverage.specs.Axes.{Domain, Coordinates, Extents, cells, extents, inside_b, number_at}
 use Rattle.coverage.specs.Kinds.{Within, high, low}
 use Rattle.coverage.specs.Limits.{bounded, few, is_name}
 use Rattle.coverage.proofs.Bools.{and_left, and_right, and_both, by_test}

@@ -2,11 +2,10 @@
 use Rattle.std.proofs.Common.{◌≡◌, ℕ, Bool, true, false, cond, ◌&&◌, eqb, List, [], ℤ, is_err, Some, None, Option, Result, sym, refl, ap, ◌∙◌, subst, arith, eqb-true}
 use borrow.Author.Tests.{clash}
 use Rattle.std.specs.Option.{option_map}
-use Rattle.coverage.specs.declared.domain.Domain.{Domain}
 use Rattle.coverage.specs.declared.kind.Kind.{Kind}
 use Rattle.coverage.specs.declared.name.Name.{Name}
 use Rattle.coverage.specs.declared.description.Description.{Description}
-use Rattle.coverage.specs.Axes.{Extents, cells, extents}
+use Rattle.coverage.specs.Axes.{Domain, Extents, cells, extents}
 use Rattle.coverage.specs.Limits.{bounded, describable, few, is_name, kind_narrow, kind_ordered, name_bytes}
 use Rattle.coverage.proofs.Bools.{and_left, and_right, and_both}
 use Rattle.shelf.specs.declared.fault.MakingFault.{MakingFault}

@@ -7,9 +7,8 @@ use Rattle.std.proofs.lemmas.Int.{ints, clamps, to_z-of_z}
 use Rattle.coverage.specs.declared.axis.Axis.{Axis}
 use Rattle.coverage.specs.declared.axis.Axis.TheVariants.{X}
 use Rattle.coverage.specs.declared.range.Range.{Range}
-use Rattle.coverage.specs.declared.domain.Domain.{Domain}
 use Rattle.coverage.specs.declared.description.Description.{Description}
-use Rattle.coverage.specs.Axes.{Coordinates, Extents, Holds, Inside, axes, cells, extents, same_z}
+use Rattle.coverage.specs.Axes.{Domain, Coordinates, Extents, Holds, Inside, axes, cells, extents, same_z}
 use Rattle.coverage.specs.Kinds.{Within, high, low}
 use Rattle.coverage.specs.Limits.{axis_bounded, bounded, few, is_name}
 use Rattle.coverage.proofs.Bools.{and_left, and_right, and_both, by_test}

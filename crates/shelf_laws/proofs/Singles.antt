@@ -1,10 +1,9 @@
 -- A shelf of one coverage or none: its calls by the description, the laws of a fixed one, and its making.
 use Rattle.std.proofs.Common.{◌≡◌, ℕ, zero, suc, Bool, true, false, cond, List, [], ◌∷◌, ℤ, Some, None, Ok, Err, Option, Result, sym, refl, ap, ◌∙◌, subst, arith}
 use borrow.Author.Tests.{clash, not-true}
-use Rattle.coverage.specs.declared.domain.Domain.{Domain}
 use Rattle.coverage.specs.declared.kind.Kind.{Kind}
 use Rattle.coverage.specs.declared.description.Description.{Description}
-use Rattle.coverage.specs.Axes.{Coordinates, extents, inside_b}
+use Rattle.coverage.specs.Axes.{Domain, Coordinates, extents, inside_b}
 use Rattle.coverage.specs.Kinds.{Within}
 use Rattle.coverage.specs.Limits.{describable, is_name}
 use Rattle.coverage.proofs.Bools.{and_left, and_right, by_test}

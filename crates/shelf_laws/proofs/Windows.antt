@@ -9,8 +9,7 @@ use Rattle.std.specs.List.{slice_get}
 use Rattle.coverage.specs.declared.axis.Axis.{Axis}
 use Rattle.coverage.specs.declared.axis.Axis.TheVariants.{X, Y, T}
 use Rattle.coverage.specs.declared.range.Range.{Range}
-use Rattle.coverage.specs.declared.domain.Domain.{Domain}
-use Rattle.coverage.specs.Axes.{Coordinates, Extents, Holds, Inside, Ordered, above, across, axes, cells, cells_over, extents, inside_b, is_none, lowest_on, on_axis, same_axis, same_z, size_of, step_of}
+use Rattle.coverage.specs.Axes.{Domain, Coordinates, Extents, Holds, Inside, Ordered, above, across, axes, cells, cells_over, extents, inside_b, is_none, lowest_on, on_axis, same_axis, same_z, size_of, step_of}
 use Rattle.coverage.specs.Kinds.{Within}
 use Rattle.coverage.specs.Limits.{axis_bounded, bounded, few, is_name, kind_narrow, kind_ordered, name_bytes}
 use Rattle.coverage.specs.Strips.{in_strip, strip_at, strip_first, strip_point, strips}

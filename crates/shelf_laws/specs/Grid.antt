@@ -1,9 +1,8 @@
 -- The received grid: what its cells mean, and the laws that its memory keeps.
 use Rattle.std.specs.Prelude.{◌≡◌, ℕ, ◌*◌, ◌/◌, Bool, true, cond, not, ◌&&◌, ◌||◌, List, [], ◌∷◌, ℤ, pos, negsuc, Some, None, Option, ◌==◌, slice_index_or}
-use Rattle.coverage.specs.declared.domain.Domain.{Domain}
 use Rattle.coverage.specs.declared.kind.Kind.{Kind}
 use Rattle.coverage.specs.declared.description.Description.{Description}
-use Rattle.coverage.specs.Axes.{cells, extents, inside_b, number_at, same_z}
+use Rattle.coverage.specs.Axes.{Domain, cells, extents, inside_b, number_at, same_z}
 use Rattle.coverage.specs.Kinds.{fits}
 use Rattle.coverage.specs.Limits.{describable, name_bytes}
 use Rattle.coverage.specs.Strips.{row_width}

@@ -2,7 +2,8 @@
 use Rattle.std.specs.Prelude.{◌≡◌, ℕ, Bool, true, cond, ◌&&◌, ◌⊎◌, List, [], ◌∷◌, ℤ, pos, negsuc, ◌+ℤ◌, ◌*ℤ◌, ◌≤ℤ◌, Some, None, Option, int_le}
 use Rattle.std.specs.Int.{int_min, int_max}
 use Rattle.coverage.specs.declared.axis.Axis.{Axis}
-use Rattle.coverage.specs.declared.axis.Axis.TheVariants.{X, Y, T}
+use Rattle.coverage.specs.declared.per_axis.PerAxis.{PerAxis}
+use Rattle.coverage.specs.Entries.{entry}
 use Rattle.coverage.specs.declared.range.Range.{Range}
 use Rattle.coverage.specs.declared.kind.Kind.{Kind}
 use Rattle.coverage.specs.declared.kind.Kind.TheVariants.{Number}
@@ -13,17 +14,17 @@ use Rattle.coverage.specs.Limits.{bounded, few, is_name}
 use Rattle.shelf.specs.declared.fault.MakingFault.{MakingFault}
 use Rattle.shelf.specs.declared.fault.MakingFault.TheVariants.{NoName, OutOfBounds, ManyCells}
 use Rattle.shelf.specs.Meaning.{Coverage}
-use Rattle.shelf_laws.specs.declared.slopes.Slopes.{Slopes}
 use Rattle.shelf_laws.specs.Single.{CellsOf, single}
 
 -- slopes by what they give each axis
 abbrev pub Gradient : Type 0
 Gradient = Axis → ℤ
 
+abbrev pub Slopes : Type 0
+Slopes = PerAxis ℤ
+
 abbrev pub gradient : Slopes → Gradient
-gradient s X = s.x
-gradient s Y = s.y
-gradient s T = s.t
+gradient s = entry s
 
 -- slopes lie within ±100, offsets within ±100,000,000
 abbrev pub is_mild : ℤ → Bool

@@ -1,10 +1,9 @@
 -- A shelf of one coverage, which has number 0, or of none where its making was refused: what its calls
 -- answer as far as the description tells.
 use Rattle.std.specs.Prelude.{◌≡◌, ℕ, zero, suc, Bool, true, false, cond, not, ◌&&◌, List, [], ◌∷◌, ℤ, Some, None, Ok, Err, Option, Result}
-use Rattle.coverage.specs.declared.domain.Domain.{Domain}
 use Rattle.coverage.specs.declared.kind.Kind.{Kind}
 use Rattle.coverage.specs.declared.description.Description.{Description}
-use Rattle.coverage.specs.Axes.{Coordinates, Extents, extents, inside_b}
+use Rattle.coverage.specs.Axes.{Domain, Coordinates, Extents, extents, inside_b}
 use Rattle.coverage.specs.Limits.{describable, name_bytes}
 use Rattle.shelf.specs.declared.fault.MakingFault.{MakingFault}
 use Rattle.shelf.specs.declared.fault.ShelfFault.{ShelfFault}

@@ -4,9 +4,8 @@ use Rattle.std.specs.List.{slice_get}
 use Rattle.coverage.specs.declared.axis.Axis.{Axis}
 use Rattle.coverage.specs.declared.axis.Axis.TheVariants.{X, Y, T}
 use Rattle.coverage.specs.declared.range.Range.{Range}
-use Rattle.coverage.specs.declared.domain.Domain.{Domain}
 use Rattle.coverage.specs.declared.description.Description.{Description}
-use Rattle.coverage.specs.Axes.{Extents, all_over, axes}
+use Rattle.coverage.specs.Axes.{Domain, Extents, all_over, axes}
 use Rattle.coverage.specs.Limits.{ordered}
 use Rattle.coverage.specs.Strips.{strip_at, strip_first}
 use Rattle.shelf.specs.declared.fault.MakingFault.{MakingFault}

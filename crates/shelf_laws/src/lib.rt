@@ -9,4 +9,4 @@ pub mod slopes;
 
 pub use cut::{Cut, View};
 pub use rows::Rows;
-pub use slopes::Slopes;
+pub use slopes::{Slopes, are_mild};

@@ -9,8 +9,8 @@ use crate::single::asked;
 use coverage::name::is_name;
 use coverage::{Domain, Kind, TOO_MANY};
 use shelf::MakingFault;
-use shelf_laws::Slopes;
 use shelf_laws::ramp::{is_near, ramp_span};
+use shelf_laws::{Slopes, are_mild};
 
 /// The call before the making of a ramp: why it is refused, or nothing.
 pub fn check_ramp(
@@ -24,7 +24,7 @@ pub fn check_ramp(
     if !is_name(name) {
         return Err(MakingFault::NoName);
     }
-    if !(domain.is_bounded() && slopes.are_mild() && is_near(offset)) {
+    if !(domain.is_bounded() && are_mild(slopes) && is_near(offset)) {
         return Err(MakingFault::OutOfBounds);
     }
     if domain.cells() == TOO_MANY {

@@ -1,10 +1,10 @@
 // The lines that are printed.
 #![tactic(auto)]
 
-ghost use Rattle.written.specs.Format.{cell_line, grid_line, layer_word, not_a_form, refusal_line, returned_words, strip_line};
+ghost use Rattle.written.specs.Format.{cell_line, grid_line, not_a_form, refusal_line, strip_line};
 ghost use Rattle.std.specs.Prelude.{◌≡◌, IfOk, string_bytes};
 
-use coverage::{Layer, Refusal, Returned};
+use coverage::Refusal;
 use std::alloc::{AllocError, Global};
 
 /// `(grid 0)`: the number of the coverage that was made.
@@ -31,36 +31,11 @@ pub fn cell_line(heap: Global, cell: Option<i32>) -> Result<String, AllocError>
     }
 }
 
-/// The word of a layer.
-fn layer_word(layer: Layer) -> &'static str
-    ensures { result.now ≡ layer_word layer }
-{
-    match layer {
-        Layer::Text => "text",
-        Layer::Check => "check",
-        Layer::Run => "run",
-        Layer::Shelf => "shelf",
-    }
-}
-
-/// The returned numbers with a blank between them.
-fn returned_words(heap: Global, returned: Returned) -> Result<String, AllocError>
-    ensures { IfOk result (λ s. string_bytes s ≡ returned_words returned) }
-{
-    match returned {
-        Returned::One(n) => format!(in heap; "{n}"),
-        Returned::Two(a, b) => format!(in heap; "{a} {b}"),
-    }
-}
-
 /// `(refused shelf 19 0 1)`: the layer, the number of the cause, what is returned.
 pub fn refusal_line(heap: Global, refusal: Refusal) -> Result<String, AllocError>
     ensures { IfOk result (λ s. string_bytes s ≡ refusal_line refusal) }
 {
-    let layer = layer_word(refusal.layer);
-    let number = refusal.number;
-    let returned = returned_words(heap, refusal.returned)?;
-    format!(in heap; "(refused {layer} {number} {returned})")
+    refusal.to_string(heap)
 }
 
 /// `(not a form: byte 7)`: the place where a line stops being a form.

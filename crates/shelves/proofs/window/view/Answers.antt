@@ -1,6 +1,6 @@
 use Rattle.std.proofs.Common.{true, false, Ok, Result, sym, ap, ◌∙◌}
 use Rattle.std.specs.List.{slice_get}
-use Rattle.coverage.specs.declared.domain.Domain.{Domain}
+use Rattle.coverage.specs.Axes.{Domain}
 use Rattle.shelf.specs.declared.fault.MakingFault.{MakingFault}
 use Rattle.shelf_laws.specs.declared.cut.View.{View}
 use Rattle.shelf_laws.proofs.Views.{view_by}

@@ -66,4 +66,6 @@ loop-axis-preserved c =
     (subst (λ w. Counted list d p (i + 1) (c.loop-axis.n + c.loop-axis.stride * step_of (d a) (p a)) (c.loop-axis.stride * w)) w k)
 
 pub returns : goal.returns
-returns c = counted c.args.axes.now (extents c.args.self) (coordinates c.args.p) c.loop-axis.axis-index c.loop-axis.n c.loop-axis.stride c.loop-axis-test.false c.loop-axis.invariant
+returns c =
+    let k = counted c.args.axes.now (extents c.args.self) (coordinates c.args.p) c.loop-axis.axis-index c.loop-axis.n c.loop-axis.stride c.loop-axis-test.false c.loop-axis.invariant in
+    record { number = k.0; below = k.1 }

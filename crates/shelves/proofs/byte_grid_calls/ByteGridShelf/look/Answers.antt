@@ -33,7 +33,7 @@ bounds-self-i c =
     let a = c.in_ok-about.about in
     let r = reached_in_lem me.about c.args.coverage (coordinates c.args.at) a (sym c.reach.ensures ∙ c.in_ok-about.was) in
     let long : length me.bytes.now ≡ cells (extents a.domain) = eqb-true _ _ (ap (λ x. length_ok x (length me.bytes.now)) (sym r.0) ∙ me.long) in
-    omega (arith, long, c.cell_number-i.ensures.1)
+    omega (arith, long, c.cell_number-i.ensures.below)
 
 pub returns : goal.returns
 returns c =
@@ -45,6 +45,6 @@ returns c =
     let ok : Option ℤ → Result (Option ℤ) ShelfFault = λ x. Ok x in
     let is : reached me.about c.args.coverage p ≡ Ok a = sym c.reach.ensures ∙ c.in_ok-about.was in
     let r = reached_in_lem me.about c.args.coverage p a is in
-    let i : c.cell_number-i.result ≡ number_at d p = c.cell_number-i.ensures.0 in
+    let i : c.cell_number-i.result ≡ number_at d p = c.cell_number-i.ensures.number in
     ap ok (c.byte_value.ensures ∙ ap (λ j. byte_value (get_or bs j 0)) i)
     ∙ sym (look_reached me.about (byte_cells bs) c.args.coverage p ∙ (ap (λ x. seen (byte_cells bs) x p) is ∙ ap ok (byte_at bs d p r.1)))

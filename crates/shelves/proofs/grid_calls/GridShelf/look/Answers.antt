@@ -26,7 +26,7 @@ offset_bounds-self-i c =
     let cs = me.rows.cells.now in
     let k = kept_from me.about a cs c.in-Some.is me.described me.long me.fit me.whole in
     let few = few_cells (extents a.domain) (describable_by a k.described).cells_few in
-    let below = c.cell_number-i.ensures.1 in
+    let below = c.cell_number-i.ensures.below in
     search rules
 
 pub bounds-self-i : goal.bounds-self-i
@@ -35,7 +35,7 @@ bounds-self-i c =
     let a = c.in-Some.about in
     let cs = me.rows.cells.now in
     let k = kept_from me.about a cs c.in-Some.is me.described me.long me.fit me.whole in
-    omega (arith, k.long, c.cell_number-i.ensures.1)
+    omega (arith, k.long, c.cell_number-i.ensures.below)
 
 pub returns-then-v : goal.returns-then-v
 returns-then-v c =
@@ -43,7 +43,7 @@ returns-then-v c =
     let a = c.in-Some.about in
     let cs = me.rows.cells.now in
     let k = kept_from me.about a cs c.in-Some.is me.described me.long me.fit me.whole in
-    let i : c.cell_number-i.result ≡ number_at (extents a.domain) (coordinates c.args.at) = c.cell_number-i.ensures.0 in
+    let i : c.cell_number-i.result ≡ number_at (extents a.domain) (coordinates c.args.at) = c.cell_number-i.ensures.number in
     let v = get_or cs c.cell_number-i.result (pos 0) in
     let f : SFits w32 v = search rules in
     let ok : Option ℤ → Result (Option ℤ) ShelfFault = λ x. Ok x in
@@ -56,7 +56,7 @@ returns-else-v c =
     let a = c.in-Some.about in
     let cs = me.rows.cells.now in
     let k = kept_from me.about a cs c.in-Some.is me.described me.long me.fit me.whole in
-    let i : c.cell_number-i.result ≡ number_at (extents a.domain) (coordinates c.args.at) = c.cell_number-i.ensures.0 in
+    let i : c.cell_number-i.result ≡ number_at (extents a.domain) (coordinates c.args.at) = c.cell_number-i.ensures.number in
     let v = get_or cs c.cell_number-i.result (pos 0) in
     let f : SFits w32 v = search rules in
     let ok : Option ℤ → Result (Option ℤ) ShelfFault = λ x. Ok x in

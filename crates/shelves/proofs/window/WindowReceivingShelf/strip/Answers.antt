@@ -68,7 +68,7 @@ returns-in-Ok-strip g c =
     let law = g.S.Shelf.lawful me.below.now in
     let n : c.strips.result ≡ strips (extents v.about.domain) = c.strips.ensures ∙ strips_counted v.about (view_describable m me.coverage me.cut v c.in-Ok.ensures law) in
     let h : c.args.strip < strips (extents v.about.domain) = omega (arith, n, c.if-strip-strips.false) in
-    let s = c.strip_number-below.ensures.0 ∙ ap (strip_at (extents v.whole)) c.strip_first.ensures in
+    let s = c.strip_number-below.ensures.number ∙ ap (strip_at (extents v.whole)) c.strip_first.ensures in
     let t = view_through m me.coverage me.cut v c.in-Ok.ensures law c.args.coverage c.if-coverage-ne0.false c.args.strip c.strip_number-below.result c.args.cells.now _ h s c.strip.ensures.after in
     record { answer = ap (λ r. told r c.args.coverage c.args.strip) c.in-Ok-strip.ensures.answer ∙ t.0; after = t.1 }
 
@@ -80,7 +80,7 @@ returns-in-Err g c =
     let law = g.S.Shelf.lawful me.below.now in
     let n : c.strips.result ≡ strips (extents v.about.domain) = c.strips.ensures ∙ strips_counted v.about (view_describable m me.coverage me.cut v c.in-Ok.ensures law) in
     let h : c.args.strip < strips (extents v.about.domain) = omega (arith, n, c.if-strip-strips.false) in
-    let s = c.strip_number-below.ensures.0 ∙ ap (strip_at (extents v.whole)) c.strip_first.ensures in
+    let s = c.strip_number-below.ensures.number ∙ ap (strip_at (extents v.whole)) c.strip_first.ensures in
     let t = view_through m me.coverage me.cut v c.in-Ok.ensures law c.args.coverage c.if-coverage-ne0.false c.args.strip c.strip_number-below.result c.args.cells.now _ h s c.strip.ensures.after in
     let err : ShelfFault → Result (Unit {0}) ShelfFault = λ f. Err f in
     record { answer = ap err c.renumbered.ensures ∙ (ap (λ r. told r c.args.coverage c.args.strip) c.in-Err.ensures.answer ∙ t.0); after = t.1 }

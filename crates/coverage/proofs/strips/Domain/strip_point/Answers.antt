@@ -5,7 +5,7 @@ use Rattle.coverage.specs.Axes.{across, coordinates, extents, point_over}
 use Rattle.coverage.specs.Strips.{strip_point}
 use Rattle.coverage.proofs.Points.{origin_is}
 use Rattle.coverage.proofs.Standing.{strip_stands, stands_as}
-use Rattle.coverage.proofs.domain.Domain.strip_point.Goals as goal
+use Rattle.coverage.proofs.strips.Domain.strip_point.Goals as goal
 
 pub returns : goal.returns
 unfolding strip_point

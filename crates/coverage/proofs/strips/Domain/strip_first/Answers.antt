@@ -5,7 +5,7 @@ use Rattle.coverage.specs.declared.axis.Axis.{Axis}
 use Rattle.coverage.specs.declared.axis.Axis.TheVariants.{X}
 use Rattle.coverage.specs.Axes.{Coordinates, coordinates, extents, lowest_on, put, same_axis}
 use Rattle.coverage.specs.Strips.{strip_point}
-use Rattle.coverage.proofs.domain.Domain.strip_first.Goals as goal
+use Rattle.coverage.proofs.strips.Domain.strip_first.Goals as goal
 
 -- a point moved along x, as a function
 moved : (p q : Coordinates) (v w : ℤ) (r : Coordinates) → ((a : Axis) → p a ≡ q a) → v ≡ w → ((a : Axis) → r a ≡ put p X v a) → r ≡ put q X w

@@ -4,7 +4,7 @@ use Rattle.coverage.specs.Strips.{strip_first}
 use Rattle.coverage.proofs.Points.{inside_test}
 use Rattle.coverage.proofs.Bounds.{sized}
 use Rattle.coverage.proofs.Standing.{strip_first_holds}
-use Rattle.coverage.proofs.domain.Domain.strip_start.Goals as goal
+use Rattle.coverage.proofs.strips.Domain.strip_start.Goals as goal
 
 pub strip_first-requires : goal.strip_first-requires
 strip_first-requires c = record { sized = sized (extents c.args.self) c.requires.ordered c.requires.few }
@@ -18,4 +18,4 @@ cell_number-requires c =
 pub returns : goal.returns
 returns c =
     let d = extents c.args.self in
-    c.cell_number.ensures.0 ∙ (ap (number_at d) c.strip_first.ensures ∙ (strip_first_holds d c.requires.ordered c.args.n c.requires.below).1)
+    c.cell_number.ensures.number ∙ (ap (number_at d) c.strip_first.ensures ∙ (strip_first_holds d c.requires.ordered c.args.n c.requires.below).1)

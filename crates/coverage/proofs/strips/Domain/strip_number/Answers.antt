@@ -1,5 +1,5 @@
 use Rattle.coverage.specs.Strips.{strip_at}
-use Rattle.coverage.proofs.domain.Domain.strip_number.Goals as goal
+use Rattle.coverage.proofs.strips.Domain.strip_number.Goals as goal
 
 pub returns : goal.returns
 unfolding strip_at
