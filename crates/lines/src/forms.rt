@@ -1,5 +1,5 @@
 // The forms: each is a row of pieces, and answers its command, or the place where the line stops being it.
-ghost use Rattle.std.specs.Prelude.{◌≡◌, cond, codes, Err, IfOk};
+ghost use Rattle.std.specs.Prelude.{◌≡◌, ℕ, cond, codes, Err, IfOk};
 ghost use Rattle.std.specs.List.{fold};
 ghost use Rattle.lines.specs.Forms.{axis_form, bare_form, bounds_form, check_form, count_form, either, forms, grid_form, help_form, kind_form, look_form, placed, stop_over, strip_form};
 ghost use Rattle.lines.specs.Grids.{has_t, has_y, is_truth};
@@ -102,33 +102,20 @@ fn look<'a>(line: &'a [u8]) -> Result<Command<'a>, usize>
 }
 
 /// The opening `word`, a count, and the closing bracket: `(show C)`, `(run P)`.
-fn counted(line: &[u8], word: &[u8]) -> Result<usize, usize>
+fn counted<'a, F: FnOnce(usize) -> Command<'a>>(
+    line: &'a [u8],
+    word: &[u8],
+    command: F,
+) -> Result<Command<'a>, usize>
+    requires { F.IsAlwaysCallable command }
     ensures place { placed result ≡ stop 0 (count_form word.now) line.now }
-    ensures says { IfOk result (CountSays word.now line.now) }
+    ensures says { IfOk result (λ c. (n : ℕ) × F.post command n c × CountSays word.now line.now n) }
 {
     let mut from = Cursor::new(line);
     literal(&mut from, word)?;
     let n = count(&mut from)?;
     last(&mut from)?;
-    Ok(n)
-}
-
-/// `(show C)`.
-fn show<'a>(line: &'a [u8]) -> Result<Command<'a>, usize>
-    ensures place { placed result ≡ stop 0 (count_form (codes "(show ")) line.now }
-    ensures says { Said line.now result }
-{
-    let coverage = counted(line, b"(show ")?;
-    Ok(Command::Show(coverage))
-}
-
-/// `(run P)`.
-fn run<'a>(line: &'a [u8]) -> Result<Command<'a>, usize>
-    ensures place { placed result ≡ stop 0 (count_form (codes "(run ")) line.now }
-    ensures says { Said line.now result }
-{
-    let plan = counted(line, b"(run ")?;
-    Ok(Command::Run(plan))
+    Ok(command(n))
 }
 
 /// `(check P TEXT)`: the text goes to the last byte of the line, which is a closing bracket.
@@ -193,9 +180,9 @@ pub fn parse<'a>(line: &'a [u8]) -> Result<Command<'a>, usize>
         strip(line, false),
         strip(line, true),
         look(line),
-        show(line),
+        counted(line, b"(show ", Command::Show),
         check(line),
-        run(line),
+        counted(line, b"(run ", Command::Run),
         help(line),
     ])
 }
