@@ -16,7 +16,7 @@ pub fn reach_of_none() -> Reach
     Some(NO_AXES)
 }
 
-/// How far iterators reach that are preceded by one more: its axis is not theirs, and its ends are in order.
+/// How far iterators reach with one more before them: on, if its axis is not theirs and its ends are in order.
 pub fn preceded_by(reach: Reach, axis: Axis, range: Range) -> Reach
     ensures { (w : Word) (is : List Iterator) → Goes is reach → Goes (record { word = w; axis = axis; range = range } ∷ is) result }
 {

@@ -11,7 +11,6 @@ use crate::accepted::Accepted;
 use crate::domains::is_single;
 use crate::fault::{CheckFault, ensure};
 use crate::fits::{Expected, fits_as};
-use crate::kinds::span_of;
 use crate::limits::within_reads;
 use crate::typed::Typed;
 use coverage::{Axis, Kind, Range};
@@ -34,8 +33,10 @@ fn trim_inside(axis: Option<Range>, range: Range) -> bool
 fn position_inside(axis: Option<Range>, position: Kind) -> bool
     ensures { result ≡ position_inside axis position }
 {
-    axis.is_some_and(|whole| !fits_as(Expected::Number, position)
-        || lies_in(span_of(position), whole))
+    match position {
+        Kind::Truth => axis.is_some(),
+        Kind::Number(span) => axis.is_some_and(|whole| lies_in(span, whole)),
+    }
 }
 
 /// A trim: its axis with a shorter range.
@@ -69,8 +70,8 @@ pub fn slice_rule(
     let (operand, position) = (operand.typed, position.typed);
     let inside = !twice && position_inside(operand.domain.on(axis), position.kind);
     ensure(inside, CheckFault::Outside(place))?;
-    let is_single_number = fits_as(Expected::Number, position.kind) && is_single(position.domain);
-    ensure(is_single_number, CheckFault::Unfit(place))?;
+    let fits = fits_as(Expected::Number, position.kind) && is_single(position.domain);
+    ensure(fits, CheckFault::Unfit(place))?;
     let typed = Typed {
         domain: operand.domain.with(axis, None),
         promise: operand.promise + position.promise,

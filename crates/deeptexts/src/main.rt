@@ -4,8 +4,7 @@
 
 ghost use Rattle.std.specs.Prelude.{ℕ, ◌<◌, length};
 
-use coverage::Returned;
-use parser::fault::refusal;
+use coverage::{Refusal, Returned};
 use parser::node::{Construct, Node};
 use parser::text::read;
 use std::io;
@@ -34,7 +33,7 @@ fn told(text: &[u8]) -> (u32, usize) {
     match read(text, &mut nodes) {
         Ok(_) => (0, 0),
         Err(f) => {
-            let r = refusal(f);
+            let r = Refusal::from(f);
             match r.returned {
                 Returned::One(p) => (r.number, p),
                 Returned::Two(p, _) => (r.number, p),

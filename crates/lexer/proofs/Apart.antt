@@ -1,7 +1,10 @@
--- Symbols that are not equal have other numbers.
+-- Symbols that are not equal have other numbers, and `==` tells them apart as the numbers do.
 use Rattle.std.proofs.Common.{◌≡◌, ℕ, true, false, cond, eqb, sym, refl, ap, ◌∙◌}
 use Rattle.std.proofs.lemmas.Bool.{ne_eqb, eqb-true}
+use denote.Enum.Declared.{tag_of}
 use Rattle.lexer.specs.Symbols.{number, same_symbol}
+use Rattle.lexer.specs.contracts.symbol.Symbol.{the_type}
+use Rattle.lexer.specs.contracts.symbol.SymbolPartialEq.TheImpl.{ghosts}
 use Rattle.lexer.specs.declared.symbol.Symbol.{Symbol}
 use Rattle.lexer.specs.declared.symbol.Symbol.TheVariants.{For, In, Return, Encode, RowsWord, Condense, Coverage, Over, Where, Using, Values, Overlay, Or, Xor, And, Not, True, False, Abs, Add, Min, Max, Count, SomeOf, AllOf, Rows, Open, Close, OpenSquare, CloseSquare, Comma, Colon, Plus, Minus, Star, Slash, Equal, Unequal, Less, AtMost, Greater, AtLeast}
 
@@ -62,3 +65,51 @@ apart a b h = ne_eqb _ _ (λ e. h (alike a b e))
 -- the same symbol by the test is the same symbol
 pub same_symbol_lem : (a b : Symbol) → same_symbol a b ≡ true → a ≡ b
 same_symbol_lem a b e = alike a b (eqb-true (number a) (number b) e)
+
+tagged : (s : Symbol) → tag_of the_type s ≡ number s
+tagged For = refl
+tagged In = refl
+tagged Return = refl
+tagged Encode = refl
+tagged RowsWord = refl
+tagged Condense = refl
+tagged Coverage = refl
+tagged Over = refl
+tagged Where = refl
+tagged Using = refl
+tagged Values = refl
+tagged Overlay = refl
+tagged Or = refl
+tagged Xor = refl
+tagged And = refl
+tagged Not = refl
+tagged True = refl
+tagged False = refl
+tagged Abs = refl
+tagged Add = refl
+tagged Min = refl
+tagged Max = refl
+tagged Count = refl
+tagged SomeOf = refl
+tagged AllOf = refl
+tagged Rows = refl
+tagged Open = refl
+tagged Close = refl
+tagged OpenSquare = refl
+tagged CloseSquare = refl
+tagged Comma = refl
+tagged Colon = refl
+tagged Plus = refl
+tagged Minus = refl
+tagged Star = refl
+tagged Slash = refl
+tagged Equal = refl
+tagged Unequal = refl
+tagged Less = refl
+tagged AtMost = refl
+tagged Greater = refl
+tagged AtLeast = refl
+
+-- what `==` of symbols answers
+pub equals : (a b : Symbol) → ghosts.eq a b ≡ same_symbol a b
+equals a b = λ i. eqb (tagged a i) (tagged b i)

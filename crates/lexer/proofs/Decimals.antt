@@ -1,19 +1,17 @@
 -- Digits after a number that is too large leave it so.
-use Rattle.std.proofs.Common.{◌≡◌, ℕ, ◌+◌, ◌-◌, ◌*◌, ◌≤◌, min, Bool, true, false, leb, List, [], ◌∷◌, refl, ap, ◌∙◌, arith}
-use Rattle.std.proofs.lemmas.Bool.{leb-true, leb-false}
+use Rattle.std.proofs.Common.{◌≡◌, ℕ, ◌+◌, ◌-◌, ◌*◌, ◌<◌, ◌≤◌, cond, leb, List, [], ◌∷◌, length, get_or, drop, Some, None, refl, arith}
+use Rattle.std.proofs.lemmas.Bool.{lt-leb}
+use Rattle.std.proofs.lemmas.List.{at_drop_more}
 use Rattle.lexer.specs.Numerals.{decimal}
 
-pub grows : (n : ℕ) (bs : List ℕ) → n ≤ decimal n bs
+grows : (n : ℕ) (bs : List ℕ) → n ≤ decimal n bs
 grows n [] = omega arith
 grows n (b ∷ bs) = let h = grows (10 * n + (b - 48)) bs in omega arith
 
-pub capped : (k m : ℕ) (bs : List ℕ) → min k (decimal (min m k) bs) ≡ min k (decimal m bs)
-capped k m bs = cases (leb m k) refl
-  where
-    cases : (b : Bool) → leb m k ≡ b → min k (decimal (min m k) bs) ≡ min k (decimal m bs)
-    cases true e = let h : min m k ≡ m = omega (arith, leb-true m k e) in ap (λ x. min k (decimal x bs)) h
-    cases false e =
-        let a : min m k ≡ k = omega (arith, leb-false m k e) in
-        let h = grows k bs in
-        let g = grows m bs in
-        ap (λ x. min k (decimal x bs)) a ∙ omega (arith, leb-false m k e)
+-- after i digits with the value v, the next one makes it too large
+pub too_large : (digits : List ℕ) (i v : ℕ) → i < length digits → decimal v (drop i digits) ≡ decimal 0 digits → 2147483647 < v * 10 + (get_or digits i 0 - 48) → None ≡ (cond (leb (decimal 0 digits) 2147483647) (Some (decimal 0 digits)) None)
+too_large digits i v within so_far large =
+    let b = get_or digits i 0 in
+    let step : decimal v (drop i digits) ≡ decimal (10 * v + (b - 48)) (drop (i + 1) digits) = at_drop_more (decimal v) digits i 0 within in
+    let least = grows (10 * v + (b - 48)) (drop (i + 1) digits) in
+    rw (lt-leb (decimal 0 digits) 2147483647 (omega arith)) refl

@@ -1,12 +1,10 @@
 -- A token ends past where it was looked for, so the tokens of a text do not depend on the bound.
-use Rattle.std.proofs.Common.{◌≡◌, ℕ, zero, suc, ◌+◌, ◌-◌, ◌<◌, ◌≤◌, Bool, true, false, ◌&&◌, ◌||◌, eqb, ltb, leb, List, length, get_or, drop, Some, None, codes, Option, sym, refl, ap, ◌∙◌, subst, arith, length-drop}
+use Rattle.std.proofs.Common.{◌≡◌, ℕ, zero, suc, ◌+◌, ◌-◌, ◌<◌, ◌≤◌, Bool, true, false, ◌&&◌, eqb, ltb, leb, List, length, get_or, drop, Some, None, codes, Option, sym, refl, ap, ◌∙◌, subst, arith, length-drop}
 use Rattle.std.specs.Str.{bytes_eq}
 use Rattle.std.proofs.lemmas.List.Sums.{prefix_len-drop_yes, prefix_len-le-length}
 use Rattle.std.proofs.lemmas.Bool.{cond_both, leb-true, leb-false, false≢true, or_left, and_parts, ltb-true}
 use Rattle.lexer.specs.declared.symbol.Symbol.{Symbol}
-use Rattle.lexer.specs.declared.bytes.Class.{Class}
-use Rattle.lexer.specs.declared.bytes.Class.TheVariants.{Blank, Digit, Part}
-use Rattle.lexer.specs.Bytes.{letter, digit, member, run}
+use Rattle.lexer.specs.Bytes.{letter, digit, blank, part, run}
 use Rattle.lexer.specs.Numerals.{decimal}
 use Rattle.lexer.specs.Reserved.{word_token, or_else, clause_word, operator_word, function_word}
 use Rattle.lexer.specs.Tokens.{Tok, Seen, seen, view, tok}
@@ -31,11 +29,11 @@ Some_token t = is_end t ≡ false
 goes : {bs : List ℕ} {at s n : ℕ} {t : Tok} → Some_token t → at ≤ s → s < n → n ≤ length bs → Onward bs at t s n
 goes e a l w = record { after = omega arith; within = w; forward = λ _. omega arith; begins = λ _. l; ends = λ f. absurd (false≢true (sym e ∙ f)) }
 
-run_within : (k : Class) (bs : List ℕ) (s : ℕ) → s ≤ length bs → s + run k bs s ≤ length bs
-run_within k bs s h = omega (arith, prefix_len-le-length (member k) (drop s bs), length-drop s bs)
+run_within : (k : ℕ → Bool) (bs : List ℕ) (s : ℕ) → s ≤ length bs → s + run k bs s ≤ length bs
+run_within k bs s h = omega (arith, prefix_len-le-length (k) (drop s bs), length-drop s bs)
 
-run_some : (k : Class) (bs : List ℕ) (s : ℕ) → s < length bs → member k (get_or bs s 0) ≡ true → s < s + run k bs s
-run_some k bs s h e = omega (arith, prefix_len-drop_yes (member k) bs s 0 h e)
+run_some : (k : ℕ → Bool) (bs : List ℕ) (s : ℕ) → s < length bs → k (get_or bs s 0) ≡ true → s < s + run k bs s
+run_some k bs s h e = omega (arith, prefix_len-drop_yes (k) bs s 0 h e)
 
 or_else_some : (o : Option Symbol) (t : Tok) → Some_token t → Some_token (or_else o t)
 or_else_some (Some s) t e = refl
@@ -52,11 +50,11 @@ mark_some b = cond_both (eqb b 40) _ _ Some_token (λ _. refl) (λ _. cond_both 
 
 word_forward : (bs : List ℕ) (at s : ℕ) → at ≤ s → s < length bs → letter (get_or bs s 0) ≡ true → Forward bs at (word_at bs s)
 word_forward bs at s a lt l =
-    let m : s < s + run Part bs s = run_some Part bs s lt (or_left _ _ (or_left _ _ l)) in
-    let k : s + run Part bs s ≤ length bs = run_within Part bs s (omega arith) in
-    cond_both (ltb 16 (run Part bs s)) _ _ (Forward bs at)
+    let m : s < s + run part bs s = run_some part bs s lt (or_left _ _ l) in
+    let k : s + run part bs s ≤ length bs = run_within part bs s (omega arith) in
+    cond_both (ltb 16 (run part bs s)) _ _ (Forward bs at)
     (λ _. goes refl a m k)
-    (λ _. goes (word_some (cut bs s (run Part bs s))) a m k)
+    (λ _. goes (word_some (cut bs s (run part bs s))) a m k)
 
 variable_forward : (bs : List ℕ) (at s : ℕ) → at ≤ s → s < length bs → Forward bs at (variable_at bs s)
 variable_forward bs at s a lt =
@@ -64,18 +62,18 @@ variable_forward bs at s a lt =
     (λ e.
     let q = and_parts (ltb (s + 1) (length bs)) (letter (get_or bs (s + 1) 0)) e in
     let h : s + 1 < length bs = ltb-true (s + 1) (length bs) q.0 in
-    let m : s + 1 < s + 1 + run Part bs (s + 1) = run_some Part bs (s + 1) h (or_left (letter (get_or bs (s + 1) 0) || digit (get_or bs (s + 1) 0)) (eqb (get_or bs (s + 1) 0) 95) (or_left (letter (get_or bs (s + 1) 0)) (digit (get_or bs (s + 1) 0)) q.1)) in
-    let k : s + 1 + run Part bs (s + 1) ≤ length bs = run_within Part bs (s + 1) (omega arith) in
-    cond_both (ltb 16 (run Part bs (s + 1))) _ _ (Forward bs at)
+    let m : s + 1 < s + 1 + run part bs (s + 1) = run_some part bs (s + 1) h (or_left (letter (get_or bs (s + 1) 0)) _ q.1) in
+    let k : s + 1 + run part bs (s + 1) ≤ length bs = run_within part bs (s + 1) (omega arith) in
+    cond_both (ltb 16 (run part bs (s + 1))) _ _ (Forward bs at)
     (λ _. goes refl a (omega arith) k)
     (λ _. goes refl a (omega arith) k))
     (λ _. goes refl a (omega arith) (omega arith))
 
 numeral_forward : (bs : List ℕ) (at s : ℕ) → at ≤ s → s < length bs → digit (get_or bs s 0) ≡ true → Forward bs at (numeral_at bs s)
 numeral_forward bs at s a lt l =
-    let m : s < s + run Digit bs s = run_some Digit bs s lt l in
-    let k : s + run Digit bs s ≤ length bs = run_within Digit bs s (omega arith) in
-    cond_both (leb (decimal 0 (cut bs s (run Digit bs s))) 2147483647) _ _ (Forward bs at)
+    let m : s < s + run digit bs s = run_some digit bs s lt l in
+    let k : s + run digit bs s ≤ length bs = run_within digit bs s (omega arith) in
+    cond_both (leb (decimal 0 (cut bs s (run digit bs s))) 2147483647) _ _ (Forward bs at)
     (λ _. goes refl a m k)
     (λ _. goes refl a m k)
 
@@ -104,7 +102,7 @@ token_forward bs at s a w =
     (λ _. mark_forward bs at s a lt)))))
 
 pub lexed_forward : (bs : List ℕ) (at : ℕ) → at ≤ length bs → Forward bs at (lexed bs at)
-lexed_forward bs at h = token_forward bs at (at + run Blank bs at) (omega arith) (run_within Blank bs at h)
+lexed_forward bs at h = token_forward bs at (at + run blank bs at) (omega arith) (run_within blank bs at h)
 
 same_step : (j k : ℕ) (bs : List ℕ) (at : ℕ) → length bs - at ≤ j → length bs - at ≤ k → ((n : ℕ) → n ≤ length bs → length bs - n < j → length bs - n < k → toks_by j bs n ≡ toks_by k bs n) → (x : Seen) → Forward bs at x → listed (λ n. toks_by j bs n) x ≡ listed (λ n. toks_by k bs n) x
 same_step j k bs at a b rec (seen t s n) f = cases (is_end t) refl
@@ -121,11 +119,13 @@ toks_by_lem (suc j) zero bs at h a b = absurd (omega arith)
 toks_by_lem (suc j) (suc k) bs at h a b =
     same_step j k bs at (omega arith) (omega arith) (λ n. toks_by_lem j k bs n) (lexed bs at) (lexed_forward bs at h)
 
-pub peeked : (bs : List ℕ) (at : ℕ) (r : Lexed) → at ≤ length bs → view r ≡ lexed bs at → Peeked bs at r
+-- a cursor further on in the same text, with the token that was read to it
+pub peeked : (bs : List ℕ) (at : ℕ) (r : Lexed) → at ≤ length bs → r.next.text.now ≡ bs → view r ≡ lexed bs at → Peeked bs at r
 unfolding toks_by toks
-peeked bs at r h e =
-    let f : Onward bs at (tok r.token) r.place r.next = subst (Forward bs at) (sym e) (lexed_forward bs at h) in
+peeked bs at r h w e =
+    let f : Onward bs at (tok r.token) r.place r.next.at = subst (Forward bs at) (sym e) (lexed_forward bs at h) in
     record {
+      text = w;
       tokens = ap (listed (λ n. toks_by (length bs - at) bs n)) (sym e) ∙ more f (is_end (tok r.token)) refl;
       after = f.after;
       within = f.within;
@@ -134,6 +134,6 @@ peeked bs at r h e =
       ends = f.ends;
     }
   where
-    more : Onward bs at (tok r.token) r.place r.next → (b : Bool) → is_end (tok r.token) ≡ b → consed (tok r.token) r.place (toks_by (length bs - at) bs r.next) ≡ consed (tok r.token) r.place (toks_by (suc (length bs - r.next)) bs r.next)
+    more : Onward bs at (tok r.token) r.place r.next.at → (b : Bool) → is_end (tok r.token) ≡ b → consed (tok r.token) r.place (toks_by (length bs - at) bs r.next.at) ≡ consed (tok r.token) r.place (toks_by (suc (length bs - r.next.at)) bs r.next.at)
     more f true q = rw q refl
-    more f false q = ap (consed (tok r.token) r.place) (toks_by_lem (length bs - at) (suc (length bs - r.next)) bs r.next f.within (omega (arith, f.forward q, f.within)) (omega arith))
+    more f false q = ap (consed (tok r.token) r.place) (toks_by_lem (length bs - at) (suc (length bs - r.next.at)) bs r.next.at f.within (omega (arith, f.forward q, f.within)) (omega arith))

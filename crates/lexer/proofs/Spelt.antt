@@ -4,8 +4,7 @@ use Rattle.std.specs.List.{AllByRecursion as All}
 use Rattle.std.specs.Str.{bytes_eq}
 use Rattle.std.proofs.lemmas.Bool.{cond_both, leb-true}
 use Rattle.lexer.specs.declared.symbol.Symbol.{Symbol}
-use Rattle.lexer.specs.declared.bytes.Class.TheVariants.{Blank, Digit, Part}
-use Rattle.lexer.specs.Bytes.{letter, digit, run}
+use Rattle.lexer.specs.Bytes.{letter, digit, blank, part, run}
 use Rattle.lexer.specs.Numerals.{decimal}
 use Rattle.lexer.specs.Reserved.{word_token, or_else, clause_word, operator_word, function_word}
 use Rattle.lexer.specs.Tokens.{Tok, word, variable, numeral, symbol, bad, end, Seen, seen}
@@ -56,11 +55,11 @@ mark_spelt bs s b =
 token_spelt : (bs : List ℕ) (s : ℕ) → SeenSpelt bs (token_at bs s)
 token_spelt bs s =
     cond_both (leb (length bs) s) _ _ (SeenSpelt bs) (λ _. tt)
-    (λ _. cond_both (letter (get_or bs s 0)) _ _ (SeenSpelt bs) (λ _. cond_both (ltb 16 (run Part bs s)) _ _ (SeenSpelt bs) (λ _. tt) (λ _. word_spelt bs s (run Part bs s)))
-    (λ _. cond_both (digit (get_or bs s 0)) _ _ (SeenSpelt bs) (λ _. cond_both (leb (decimal 0 (cut bs s (run Digit bs s))) 2147483647) _ _ (SeenSpelt bs) (λ e. leb-true _ _ e) (λ _. tt))
+    (λ _. cond_both (letter (get_or bs s 0)) _ _ (SeenSpelt bs) (λ _. cond_both (ltb 16 (run part bs s)) _ _ (SeenSpelt bs) (λ _. tt) (λ _. word_spelt bs s (run part bs s)))
+    (λ _. cond_both (digit (get_or bs s 0)) _ _ (SeenSpelt bs) (λ _. cond_both (leb (decimal 0 (cut bs s (run digit bs s))) 2147483647) _ _ (SeenSpelt bs) (λ e. leb-true _ _ e) (λ _. tt))
     (λ _. cond_both (eqb (get_or bs s 0) 36) _ _ (SeenSpelt bs)
     (λ _. cond_both (ltb (s + 1) (length bs) && letter (get_or bs (s + 1) 0)) _ _ (SeenSpelt bs)
-    (λ _. cond_both (ltb 16 (run Part bs (s + 1))) _ _ (SeenSpelt bs) (λ _. tt) (λ _. take_again (run Part bs (s + 1)) (drop (s + 1) bs)))
+    (λ _. cond_both (ltb 16 (run part bs (s + 1))) _ _ (SeenSpelt bs) (λ _. tt) (λ _. take_again (run part bs (s + 1)) (drop (s + 1) bs)))
     (λ _. tt))
     (λ _. cond_both (eqb (get_or bs s 0) 34) _ _ (SeenSpelt bs)
     (λ _. cond_both (leb 6 (length bs - s) && bytes_eq (cut bs s 6) (codes "\"rows\"")) _ _ (SeenSpelt bs) (λ _. tt) (λ _. tt))
@@ -72,7 +71,7 @@ listed_spelt bs more h (seen t s n) k = cond_both (is_end t) _ _ (AllSpelt bs) (
 toks_by_spelt : (k : ℕ) (bs : List ℕ) (at : ℕ) → AllSpelt bs (toks_by k bs at)
 unfolding toks_by
 toks_by_spelt zero bs at = tt
-toks_by_spelt (suc k) bs at = listed_spelt bs (λ n. toks_by k bs n) (λ n. toks_by_spelt k bs n) (lexed bs at) (token_spelt bs (at + run Blank bs at))
+toks_by_spelt (suc k) bs at = listed_spelt bs (λ n. toks_by k bs n) (λ n. toks_by_spelt k bs n) (lexed bs at) (token_spelt bs (at + run blank bs at))
 
 -- every token of a text
 pub toks_spelt : (bs : List ℕ) (at : ℕ) → AllSpelt bs (toks bs at)

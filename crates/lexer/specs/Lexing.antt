@@ -1,11 +1,10 @@
 -- Which token begins where.
 use Rattle.std.specs.Prelude.{ℕ, ◌+◌, ◌-◌, Bool, cond, ◌&&◌, ◌||◌, List, length, take, drop, codes, ◌==◌, nat_le, nat_lt, slice_index}
 use Rattle.std.specs.Str.{bytes_eq}
-use Rattle.lexer.specs.Bytes.{letter, digit, run}
+use Rattle.lexer.specs.Bytes.{letter, digit, blank, part, run}
 use Rattle.lexer.specs.Numerals.{decimal}
 use Rattle.lexer.specs.Reserved.{word_token}
 use Rattle.lexer.specs.Tokens.{Tok, variable, numeral, symbol, bad, end, Seen, seen}
-use Rattle.lexer.specs.declared.bytes.Class.TheVariants.{Blank, Digit, Part}
 use Rattle.lexer.specs.declared.symbol.Symbol.TheVariants.{Rows, Open, Close, OpenSquare, CloseSquare, Comma, Colon, Plus, Minus, Star, Slash, Equal, Unequal, Less, AtMost, Greater, AtLeast}
 
 -- n bytes from s on
@@ -18,7 +17,7 @@ word_of bs s n = cond (nat_lt 16 n) (seen bad s (s + n)) (seen (word_token (cut 
 
 -- a word takes all letters, digits and underscores that follow
 abbrev pub word_at : List ℕ → ℕ → Seen
-word_at bs s = word_of bs s (run Part bs s)
+word_at bs s = word_of bs s (run part bs s)
 
 -- the same after a `$` at s; the `$` does not count, and its place is the token's
 abbrev pub variable_of : List ℕ → ℕ → ℕ → Seen
@@ -26,14 +25,14 @@ variable_of bs s n = cond (nat_lt 16 n) (seen bad s (s + 1 + n)) (seen (variable
 
 abbrev pub variable_at : List ℕ → ℕ → Seen
 variable_at bs s =
-    cond (nat_lt (s + 1) (length bs) && letter (slice_index bs (s + 1))) (variable_of bs s (run Part bs (s + 1))) (seen bad s (s + 1))
+    cond (nat_lt (s + 1) (length bs) && letter (slice_index bs (s + 1))) (variable_of bs s (run part bs (s + 1))) (seen bad s (s + 1))
 
 -- n digits at s: over 2,147,483,647 they are no token
 abbrev pub numeral_of : List ℕ → ℕ → ℕ → Seen
 numeral_of bs s n = cond (nat_le (decimal 0 (cut bs s n)) 2147483647) (seen (numeral (decimal 0 (cut bs s n))) s (s + n)) (seen bad s (s + n))
 
 abbrev pub numeral_at : List ℕ → ℕ → Seen
-numeral_at bs s = numeral_of bs s (run Digit bs s)
+numeral_at bs s = numeral_of bs s (run digit bs s)
 
 -- the six bytes "rows", with their quotes
 abbrev pub rows_at : List ℕ → ℕ → Seen
@@ -84,4 +83,4 @@ token_at bs s =
 
 -- the token at or after a byte: separators are left out
 abbrev pub lexed : List ℕ → ℕ → Seen
-lexed bs at = token_at bs (at + run Blank bs at)
+lexed bs at = token_at bs (at + run blank bs at)

@@ -27,4 +27,4 @@ pub data Seen : Type 0 where
   seen : Tok → ℕ → ℕ → Seen
 
 abbrev pub view : Lexed → Seen
-view l = seen (tok l.token) l.place l.next
+view l = seen (tok l.token) l.place l.next.at

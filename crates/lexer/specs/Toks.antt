@@ -41,11 +41,12 @@ toks bs at = toks_by (suc (length bs - at)) bs at
 
 -- the next token, said of the list of tokens
 pub record Peeked (bs : List ℕ) (at : ℕ) (r : Lexed) : Type 0 where
-  pub tokens : toks bs at ≡ consed (tok r.token) r.place (toks bs r.next)
-  pub after : at ≤ r.next
-  pub within : r.next ≤ length bs
-  pub forward : is_end (tok r.token) ≡ false → at < r.next
-  pub begins : is_end (tok r.token) ≡ false → r.place < r.next
+  pub text : r.next.text.now ≡ bs
+  pub tokens : toks bs at ≡ consed (tok r.token) r.place (toks bs r.next.at)
+  pub after : at ≤ r.next.at
+  pub within : r.next.at ≤ length bs
+  pub forward : is_end (tok r.token) ≡ false → at < r.next.at
+  pub begins : is_end (tok r.token) ≡ false → r.place < r.next.at
   pub ends : is_end (tok r.token) ≡ true → r.place ≡ length bs
 
 -- the place of the first that is no token

@@ -3,18 +3,19 @@ ghost use Rattle.lexer.specs.Toks.{toks, first_bad};
 
 use crate::next::peek;
 use crate::token::Token;
+use cursor::Cursor;
 
 /// The place of the first byte of no token, numeral too large or word too long.
 pub fn first_bad(text: &[u8]) -> Option<usize>
     ensures { result ≡ first_bad (toks text.now 0) }
 {
-    let mut at = 0;
+    let mut from = Cursor::new(text);
     loop {
-        let t = peek(text, at);
+        let t = peek(&from);
         match t.token {
             Token::End => return None,
             Token::Bad => return Some(t.place),
-            _ => at = t.next,
+            _ => from = t.next,
         }
     }
 }

@@ -2,7 +2,6 @@
 // match is taken. What is no token is told at its first byte.
 #![tactic(auto)]
 
-pub mod bytes;
 pub mod faults;
 pub mod next;
 pub mod numeral;
@@ -12,6 +11,5 @@ pub mod token;
 
 pub use faults::first_bad;
 pub use next::peek;
-pub use reserved::same;
-pub use symbol::{Symbol, same_symbol};
+pub use symbol::Symbol;
 pub use token::{Lexed, Token};

@@ -1,102 +1,81 @@
-ghost use Rattle.std.specs.Prelude.{◌≡◌, ℕ, ◌+◌, ◌<◌, ◌≤◌, length};
-ghost use Rattle.lexer.specs.Tokens.{tok, view};
-ghost use Rattle.lexer.specs.Lexing.{mark_token, pair_token, word_at, variable_at, numeral_at, rows_at, mark_at, token_at, lexed};
+ghost use Rattle.std.specs.Prelude.{◌≡◌, ℕ, ◌+◌, ◌<◌, ◌≤◌, slice_index, MatchOption};
+ghost use Rattle.lexer.specs.Bytes.{blank, part, run};
+ghost use Rattle.lexer.specs.Reserved.{or_else};
+ghost use Rattle.lexer.specs.Tokens.{tok, bad, seen};
+ghost use Rattle.lexer.specs.Lexing.{cut, mark_token, pair_token, word_at, variable_at, numeral_at, rows_at, mark_at, token_at};
 ghost use Rattle.lexer.specs.Toks.{Peeked};
 
-use crate::bytes::{Class, belongs, is_letter, run_end};
-use crate::numeral::{LARGEST, value};
-use crate::reserved::{same, word_token};
+use crate::numeral::value;
+use crate::reserved::word_token;
 use crate::symbol::Symbol;
 use crate::token::{Lexed, Token};
+use coverage::name::is_word_byte;
+use cursor::Cursor;
 
 const LONGEST_WORD: usize = 16;
 
-// A word that begins at `place`.
-fn word_at<'a>(text: &'a [u8], place: usize) -> Lexed<'a>
-    requires { place < length text.now }
-    ensures { view result ≡ word_at text.now place }
+// Whether a byte separates tokens.
+fn is_blank(b: u8) -> bool
+    ensures { result ≡ blank b }
 {
-    let next = run_end(text, place, Class::Part);
-    if next - place > LONGEST_WORD {
-        return Lexed {
-            token: Token::Bad,
-            place,
-            next,
-        };
-    }
-    Lexed {
-        token: word_token(&text[place..next]),
-        place,
-        next,
+    matches!(b, b'\t' | b'\n' | b'\r' | b' ')
+}
+
+// The word that stands here, unless it is longer than 16 bytes.
+fn short_word<'a>(from: &mut Cursor<'a>) -> Option<&'a [u8]>
+    ensures text { from.new.text.now ≡ from.old.text.now }
+    ensures end { from.new.at ≡ from.old.at + run part from.old.text.now from.old.at }
+    ensures word { let n = run part from.old.text.now from.old.at in MatchOption result (16 < n) (λ w. (n ≤ 16) × (w.now ≡ cut from.old.text.now from.old.at n)) }
+{
+    let word = from.run(is_word_byte);
+    (word.len() <= LONGEST_WORD).then_some(word)
+}
+
+// A word that begins here.
+fn word<'a>(from: &mut Cursor<'a>) -> Token<'a>
+    ensures text { from.new.text.now ≡ from.old.text.now }
+    ensures token { seen (tok result) from.old.at from.new.at ≡ word_at from.old.text.now from.old.at }
+{
+    match short_word(from) {
+        Some(word) => word_token(word),
+        None => Token::Bad,
     }
 }
 
-// A `$` word whose `$` stands at `place`.
-fn variable_at<'a>(text: &'a [u8], place: usize) -> Lexed<'a>
-    requires { place < length text.now }
-    ensures { view result ≡ variable_at text.now place }
+// A numeral that begins here.
+fn numeral<'a>(from: &mut Cursor<'a>) -> Token<'a>
+    ensures text { from.new.text.now ≡ from.old.text.now }
+    ensures token { seen (tok result) from.old.at from.new.at ≡ numeral_at from.old.text.now from.old.at }
 {
-    let first = place + 1;
-    if first >= text.len() || !is_letter(text[first]) {
-        return Lexed {
-            token: Token::Bad,
-            place,
-            next: first,
-        };
-    }
-    let next = run_end(text, first, Class::Part);
-    if next - first > LONGEST_WORD {
-        return Lexed {
-            token: Token::Bad,
-            place,
-            next,
-        };
-    }
-    Lexed {
-        token: Token::Variable(&text[first..next]),
-        place,
-        next,
+    let digits = from.run(|b| b.is_ascii_digit());
+    match value(digits) {
+        Some(n) => Token::Numeral(digits, n),
+        None => Token::Bad,
     }
 }
 
-// A numeral that begins at `place`.
-fn numeral_at<'a>(text: &'a [u8], place: usize) -> Lexed<'a>
-    requires { place < length text.now }
-    ensures { view result ≡ numeral_at text.now place }
+// The word after a `$`.
+fn variable<'a>(from: &mut Cursor<'a>) -> Token<'a>
+    ensures text { from.new.text.now ≡ from.old.text.now }
+    ensures token { (s : ℕ) → from.old.at ≡ s + 1 → seen (tok result) s from.new.at ≡ variable_at from.old.text.now s }
 {
-    let next = run_end(text, place, Class::Digit);
-    let digits = &text[place..next];
-    let n = value(digits);
-    if n > LARGEST {
-        return Lexed {
-            token: Token::Bad,
-            place,
-            next,
-        };
+    if !from.byte().is_some_and(|b| b.is_ascii_alphabetic()) {
+        return Token::Bad;
     }
-    Lexed {
-        token: Token::Numeral(digits, n),
-        place,
-        next,
+    match short_word(from) {
+        Some(word) => Token::Variable(word),
+        None => Token::Bad,
     }
 }
 
-// The text `"rows"`, whose first quote stands at `place`.
-fn rows_at<'a>(text: &'a [u8], place: usize) -> Lexed<'a>
-    requires { place < length text.now }
-    ensures { view result ≡ rows_at text.now place }
+// The text `"rows"` after its first quote.
+fn rows(from: &mut Cursor<'_>) -> Token<'static>
+    ensures text { from.new.text.now ≡ from.old.text.now }
+    ensures token { (s : ℕ) → from.old.at ≡ s + 1 → slice_index from.old.text.now s ≡ 34 → seen (tok result) s from.new.at ≡ rows_at from.old.text.now s }
 {
-    if text.len() - place >= 6 && same(&text[place..place + 6], b"\"rows\"") {
-        return Lexed {
-            token: Token::Symbol(Symbol::Rows),
-            place,
-            next: place + 6,
-        };
-    }
-    Lexed {
-        token: Token::Bad,
-        place,
-        next: place + 1,
+    match from.literal(b"rows\"") {
+        Ok(()) => Token::Symbol(Symbol::Rows),
+        Err(_) => Token::Bad,
     }
 }
 
@@ -122,72 +101,61 @@ fn mark_token(b: u8) -> Token<'static>
     }
 }
 
-// A mark of two bytes, the second of which is `=`.
-fn pair_token(b: u8) -> Token<'static>
-    ensures { tok result ≡ pair_token b }
+// The mark of two bytes that begins with this one; the second is `=`.
+fn pair(b: u8) -> Option<Symbol>
+    ensures { or_else result bad ≡ pair_token b }
 {
     match b {
-        b'!' => Token::Symbol(Symbol::Unequal),
-        b'<' => Token::Symbol(Symbol::AtMost),
-        b'>' => Token::Symbol(Symbol::AtLeast),
-        _ => Token::Bad,
+        b'!' => Some(Symbol::Unequal),
+        b'<' => Some(Symbol::AtMost),
+        b'>' => Some(Symbol::AtLeast),
+        _ => None,
     }
 }
 
-// A mark that begins at `place`: the longer one if there is one.
-fn mark_at<'a>(text: &'a [u8], place: usize) -> Lexed<'a>
-    requires { place < length text.now }
-    ensures { view result ≡ mark_at text.now place }
+// A mark after its first byte: the longer one if there is one.
+fn mark(from: &mut Cursor<'_>, first: u8) -> Token<'static>
+    ensures text { from.new.text.now ≡ from.old.text.now }
+    ensures token { (s : ℕ) → from.old.at ≡ s + 1 → slice_index from.old.text.now s ≡ first → seen (tok result) s from.new.at ≡ mark_at from.old.text.now s }
 {
-    let first = text[place];
-    if (first == b'!' || first == b'<' || first == b'>')
-        && place + 1 < text.len()
-        && text[place + 1] == b'='
+    if let Some(symbol) = pair(first)
+        && from.eat(b'=')
     {
-        return Lexed {
-            token: pair_token(first),
-            place,
-            next: place + 2,
-        };
-    }
-    Lexed {
-        token: mark_token(first),
-        place,
-        next: place + 1,
-    }
-}
-
-// The token at or after `at`.
-fn next_token<'a>(text: &'a [u8], at: usize) -> Lexed<'a>
-    requires { at ≤ length text.now }
-    ensures { view result ≡ lexed text.now at }
-{
-    let place = run_end(text, at, Class::Blank);
-    if place >= text.len() {
-        return Lexed {
-            token: Token::End,
-            place,
-            next: place,
-        };
-    }
-    let first = text[place];
-    if is_letter(first) {
-        word_at(text, place)
-    } else if belongs(Class::Digit, first) {
-        numeral_at(text, place)
-    } else if first == b'$' {
-        variable_at(text, place)
-    } else if first == b'"' {
-        rows_at(text, place)
+        Token::Symbol(symbol)
     } else {
-        mark_at(text, place)
+        mark_token(first)
     }
 }
 
-/// The token at or after `at`: with the tokens after it, it is all of the tokens from there on.
-pub fn peek<'a>(text: &'a [u8], at: usize) -> Lexed<'a>
-    requires { at ≤ length text.now }
-    ensures { Peeked text.now at result }
+// The token that begins here.
+fn token_here<'a>(from: &mut Cursor<'a>) -> Token<'a>
+    ensures text { from.new.text.now ≡ from.old.text.now }
+    ensures token { seen (tok result) from.old.at from.new.at ≡ token_at from.old.text.now from.old.at }
 {
-    next_token(text, at)
+    let Some(first) = from.byte() else {
+        return Token::End;
+    };
+    if first.is_ascii_alphabetic() {
+        return word(from);
+    }
+    if first.is_ascii_digit() {
+        return numeral(from);
+    }
+    from.eat(first);
+    match first {
+        b'$' => variable(from),
+        b'"' => rows(from),
+        _ => mark(from, first),
+    }
+}
+
+/// The token at or after a place: with the tokens after it, it is all of the tokens from there on.
+pub fn peek<'a>(from: &Cursor<'a>) -> Lexed<'a>
+    ensures { Peeked from.now.text.now from.now.at result }
+{
+    let mut next = *from;
+    next.run(is_blank);
+    let place = next.at;
+    let token = token_here(&mut next);
+    Lexed { token, place, next }
 }

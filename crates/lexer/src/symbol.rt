@@ -1,8 +1,5 @@
-ghost use Rattle.std.specs.Prelude.{◌≡◌};
-ghost use Rattle.lexer.specs.Symbols.{same_symbol};
-
 /// The tokens that are written in one way only: reserved words, the text `"rows"` and marks.
-#[derive(Clone, Copy)]
+#[derive(Clone, Copy, Debug, PartialEq, Eq)]
 pub enum Symbol {
     For,
     In,
@@ -46,11 +43,4 @@ pub enum Symbol {
     AtMost,
     Greater,
     AtLeast,
-}
-
-/// Whether two symbols are the same.
-pub fn same_symbol(a: Symbol, b: Symbol) -> bool
-    ensures { result ≡ same_symbol a b }
-{
-    a as u8 == b as u8
 }

@@ -10,8 +10,7 @@ use Rattle.lexer.specs.Tokens.{Tok, word, variable, numeral, symbol, bad, end}
 use Rattle.lexer.specs.Toks.{Placed}
 use Rattle.parser.specs.declared.roles.Opening.{Opening}
 use Rattle.parser.specs.declared.roles.Opening.TheVariants as opens
-use Rattle.parser.specs.declared.seen.Seen.{Seen}
-use Rattle.parser.specs.Axes.{axis_of, marks}
+use Rattle.parser.specs.Axes.{Seen, axis_of, marks}
 use Rattle.parser.specs.Roles.{is, opening, opening_of, fold_of, join_of, number_of, word_of, variable_of}
 use Rattle.parser.specs.Actions.{Placing, Action, leaf, number, prefix, slice, join}
 use Rattle.parser.specs.Yields.{functioned}
@@ -53,13 +52,16 @@ opened_back act (opens.Function f) t st s ts e c =
     let g : Gets primary (functioned t.1 f x.0) (t ∷ ts) z.1 =
     subst (λ l. Gets primary (functioned t.1 f x.0) (t ∷ l) z.1) (sym o.2) (gr.function e o.3 (subst (λ l. Gets expression x.0 o.1 l) z.2 x.2) z.3) in
     operand_of (subs (gr.whole g) (of_did z.4))
-opened_back act opens.Nothing t st s ts e c = absurd c
+
+opening_back : {S : Type 0} (act : Action → S → S) (o : Option Opening) (t : Placed) (st : S) (s : List Item) (ts : List Placed) → opening_of t.0 ≡ o → After (given o (λ o. opened act o t.1 st s)) ts → Then (level 0) (t ∷ ts) s
+opening_back act (Some o) t st s ts e c = opened_back act o t st s ts e c
+opening_back act None t st s ts e c = absurd c
 
 begins_back : {S : Type 0} (act : Action → S → S) (t : Tok) (p : ℕ) (st : S) (s : List Item) (ts : List Placed) → After (begins act t p st s) ts → Then (level 0) ((t, p) ∷ ts) s
 begins_back act (word w) p st s ts c = operand_of (subs (gr.whole (gr.iterator refl)) c)
 begins_back act (variable w) p st s ts c = operand_of (subs (gr.whole (gr.name refl)) c)
 begins_back act (numeral n) p st s ts c = operand_of (subs (gr.whole (gr.number refl)) c)
-begins_back act (symbol x) p st s ts c = opened_back act (opening x) (symbol x, p) st s ts refl c
+begins_back act (symbol x) p st s ts c = opening_back act (opening x) (symbol x, p) st s ts refl c
 begins_back act bad p st s ts c = absurd c
 begins_back act end p st s ts c = absurd c
 
@@ -102,7 +104,7 @@ arg_minused : {b : Bool} {a : Axis} {x : Placed} {q : ℕ} {u : Action} {s : Lis
 arg_minused e o (co.minus_number f c) = arg_minus_number e o f c
 arg_minused e o (co.minus_other g c) = sliced (chained (_, _, gr.prefix o g, c))
 
-minus_opens : (t : Tok) → is the.Minus t ≡ true → opening_of t ≡ opens.Prefix unary.Minus
+minus_opens : (t : Tok) → is the.Minus t ≡ true → opening_of t ≡ Some (opens.Prefix unary.Minus)
 minus_opens t e = ap opening_of (symbol_is the.Minus t e)
 
 -- an entry between its axis and what follows it

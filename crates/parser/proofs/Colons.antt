@@ -1,6 +1,5 @@
 -- No expression reads past a numeral that a colon follows, with or without a minus before it.
 use Rattle.std.proofs.Common.{◌≡◌, ℕ, Bool, true, false, List, ◌∷◌, Some, None, Option, sym, refl, ap, ◌∙◌, subst, arith}
-use Rattle.syntax.specs.declared.Unary.{Unary}
 use Rattle.syntax.specs.declared.Unary.TheVariants as unary
 use Rattle.syntax.specs.declared.Binary.{Binary}
 use Rattle.parser.specs.declared.roles.Function.{Function}
@@ -16,8 +15,8 @@ use Rattle.parser.specs.Roles.{is, number_of, word_of, variable_of, operator_of,
 use Rattle.parser.specs.Yields.{Yield}
 use Rattle.parser.specs.Grammar as gr
 use Rattle.parser.specs.Grammar.{Is, Numeral, Opens, Sort, Gets}
-use Rattle.parser.proofs.See.{number_is}
-use Rattle.parser.proofs.Tokens.{none_some, unlike, unlike_opening, joined_at, two_symbols}
+use Rattle.parser.proofs.See.{number_is, symbol_is}
+use Rattle.parser.proofs.Tokens.{none_some, unlike, joined_at, two_symbols}
 
 pub first : (t u : Placed) (ts us : List Placed) → t ∷ ts ≡ u ∷ us → t ≡ u
 first t u ts us e = cc
@@ -35,8 +34,8 @@ num_symbol x t u n e i j = unlike number_of x t.0 n (subst (Numeral n) (sym e) j
 num_word : {A : Type 0} (f : Tok → Option A) (t u : Placed) (a : A) (n : ℕ) → ((m : ℕ) → f (numeral m) ≡ None) → t ≡ u → f t.0 ≡ Some a → Numeral n u → ⊥
 num_word f t u a n h e i j = none_some a (sym (h n) ∙ ap f (sym (number_is t.0 n (subst (Numeral n) (sym e) j))) ∙ i)
 
-num_opens : (o : Opening) (t u : Placed) (n : ℕ) → t ≡ u → Opens o t → (opens.Nothing ≡ o → ⊥) → Numeral n u → ⊥
-num_opens o t u n e i h j = h (ap opening_of (sym (number_is t.0 n (subst (Numeral n) (sym e) j))) ∙ i)
+num_opens : (o : Opening) (t u : Placed) (n : ℕ) → t ≡ u → Opens o t → Numeral n u → ⊥
+num_opens o t u n e i j = num_word opening_of t u o n (λ _. refl) e i j
 
 -- a colon joins nothing, and opens no bracket
 colon_joins : (n : ℕ) {o : Binary} (t c : Placed) → t ≡ c → gr.Joins n o t → Is the.Colon c → ⊥
@@ -48,18 +47,6 @@ colon_square t c e i j = two (is the.OpenSquare t.0) i (two_symbols the.Colon th
 colon_comma : (t c : Placed) → t ≡ c → Is the.Comma t → Is the.Colon c → ⊥
 colon_comma t c e i j = two (is the.Comma t.0) i (two_symbols the.Colon the.Comma t.0 refl (subst (Is the.Colon) (sym e) j))
 
-round_some : opens.Nothing ≡ opens.Round → ⊥
-round_some e = let z : ◌≡◌ {A = ℕ} 0 1 = cc in omega arith
-
-truth_some : (b : Bool) → opens.Nothing ≡ opens.Truth b → ⊥
-truth_some b e = let z : ◌≡◌ {A = ℕ} 0 1 = cc in omega arith
-
-prefix_some : {u : Unary} → opens.Nothing ≡ opens.Prefix u → ⊥
-prefix_some e = let z : ◌≡◌ {A = ℕ} 0 1 = cc in omega arith
-
-function_some : {f : Function} → opens.Nothing ≡ opens.Function f → ⊥
-function_some e = let z : ◌≡◌ {A = ℕ} 0 1 = cc in omega arith
-
 pub colon_left : {x : Sort} {y : Yield} {ts us : List Placed} → Gets x y ts us → (n : ℕ) (t c : Placed) (r : List Placed) → ts ≡ t ∷ c ∷ r → Numeral n t → Is the.Colon c → us ≡ c ∷ r
 colon_left (gr.chain g) n t c r e i j = colon_left g n t c r e i j
 colon_left (gr.condense a1 a2 a3 a4 a5 a6) n t c r e i j = absurd (num_symbol the.Condense _ t n (first _ _ _ _ e) a1 i)
@@ -68,16 +55,16 @@ colon_left (gr.coverage a1 a2 a3 a4 a5 a6) n t c r e i j = absurd (num_symbol th
 colon_left (gr.tighter g) n t c r e i j = colon_left g n t c r e i j
 colon_left (gr.joins {n = m} q g o h) n t c r e i j = absurd (colon_joins m _ c (first _ _ _ _ (colon_left g n t c r e i j)) o j)
 colon_left (gr.compares g o h) n t c r e i j = absurd (colon_joins 2 _ c (first _ _ _ _ (colon_left g n t c r e i j)) o j)
-colon_left (gr.prefix o g) n t c r e i j = absurd (num_opens _ _ t n (first _ _ _ _ e) o prefix_some i)
+colon_left (gr.prefix o g) n t c r e i j = absurd (num_opens _ _ t n (first _ _ _ _ e) o i)
 colon_left (gr.plain g) n t c r e i j = colon_left g n t c r e i j
 colon_left (gr.whole g) n t c r e i j = colon_left g n t c r e i j
 colon_left (gr.bracket g o h z) n t c r e i j = absurd (colon_square _ c (first _ _ _ _ (colon_left g n t c r e i j)) o j)
 colon_left (gr.number o) n t c r e i j = rest _ _ _ _ e
-colon_left (gr.truth {b = b} o) n t c r e i j = absurd (num_opens _ _ t n (first _ _ _ _ e) o (truth_some b) i)
+colon_left (gr.truth {b = b} o) n t c r e i j = absurd (num_opens _ _ t n (first _ _ _ _ e) o i)
 colon_left (gr.name {w = w} o) n t c r e i j = absurd (num_word variable_of _ t w n (λ _. refl) (first _ _ _ _ e) o i)
 colon_left (gr.iterator {w = w} o) n t c r e i j = absurd (num_word word_of _ t w n (λ _. refl) (first _ _ _ _ e) o i)
-colon_left (gr.round o g z) n t c r e i j = absurd (num_opens _ _ t n (first _ _ _ _ e) o round_some i)
-colon_left (gr.function o p g z) n t c r e i j = absurd (num_opens _ _ t n (first _ _ _ _ e) o function_some i)
+colon_left (gr.round o g z) n t c r e i j = absurd (num_opens _ _ t n (first _ _ _ _ e) o i)
+colon_left (gr.function o p g z) n t c r e i j = absurd (num_opens _ _ t n (first _ _ _ _ e) o i)
 colon_left (gr.last_entry g) n t c r e i j = colon_left g n t c r e i j
 colon_left (gr.more_entries g o h) n t c r e i j = absurd (colon_comma _ c (first _ _ _ _ (colon_left g n t c r e i j)) o j)
 colon_left (gr.trim {x = x} o g) n t c r e i j = absurd (num_word axis_of _ t x n (λ _. refl) (first _ _ _ _ e) o i)
@@ -90,16 +77,16 @@ minus_symbol x t u e h i j = two (is x t.0) i (two_symbols the.Minus x t.0 h (su
 minus_word : {A : Type 0} (f : Tok → Option A) (t u : Placed) (a : A) → f (symbol the.Minus) ≡ None → t ≡ u → f t.0 ≡ Some a → Is the.Minus u → ⊥
 minus_word f t u a h e i j = unlike f the.Minus t.0 a i h (subst (Is the.Minus) (sym e) j)
 
-minus_opens : (o : Opening) (t u : Placed) → t ≡ u → Opens o t → (opens.Prefix unary.Minus ≡ o → ⊥) → Is the.Minus u → ⊥
-minus_opens o t u e i h j = unlike_opening the.Minus t.0 o i h (subst (Is the.Minus) (sym e) j)
+minus_opens : (o : Opening) (t u : Placed) → t ≡ u → Opens o t → (Some (opens.Prefix unary.Minus) ≡ Some o → ⊥) → Is the.Minus u → ⊥
+minus_opens o t u e i h j = h (ap opening_of (sym (symbol_is the.Minus t.0 (subst (Is the.Minus) (sym e) j))) ∙ i)
 
-truth_minus : (b : Bool) → opens.Prefix unary.Minus ≡ opens.Truth b → ⊥
+truth_minus : (b : Bool) → Some (opens.Prefix unary.Minus) ≡ Some (opens.Truth b) → ⊥
 truth_minus b e = let z : ◌≡◌ {A = ℕ} 0 1 = cc in omega arith
 
-round_minus : opens.Prefix unary.Minus ≡ opens.Round → ⊥
+round_minus : Some (opens.Prefix unary.Minus) ≡ Some opens.Round → ⊥
 round_minus e = let z : ◌≡◌ {A = ℕ} 0 1 = cc in omega arith
 
-function_minus : {f : Function} → opens.Prefix unary.Minus ≡ opens.Function f → ⊥
+function_minus : {f : Function} → Some (opens.Prefix unary.Minus) ≡ Some (opens.Function f) → ⊥
 function_minus e = let z : ◌≡◌ {A = ℕ} 0 1 = cc in omega arith
 
 pub minus_left : {x : Sort} {y : Yield} {ts us : List Placed} → Gets x y ts us → (k : Placed) (n : ℕ) (t c : Placed) (r : List Placed) → ts ≡ k ∷ t ∷ c ∷ r → Is the.Minus k → Numeral n t → Is the.Colon c → us ≡ c ∷ r

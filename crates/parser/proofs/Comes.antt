@@ -9,8 +9,7 @@ use Rattle.std.proofs.lemmas.Bool.{false≢true, eqb-true}
 use Rattle.lexer.specs.declared.symbol.Symbol.{Symbol}
 use Rattle.lexer.specs.declared.symbol.Symbol.TheVariants as the
 use Rattle.lexer.specs.Toks.{Placed}
-use Rattle.parser.specs.declared.seen.Seen.{Seen}
-use Rattle.parser.specs.Axes.{none_seen}
+use Rattle.parser.specs.Axes.{Seen, none_seen}
 use Rattle.parser.specs.Actions.{Placing, Action, prefix, bound, pick, condense, cover, placing, spanning}
 use Rattle.parser.specs.Yields.{Yield, joined}
 use Rattle.parser.specs.Machine as m

@@ -35,13 +35,12 @@ opened_same act act' opens.Round p st st' s = refl
 opened_same act act' (opens.Truth b) p st st' s = refl
 opened_same act act' (opens.Prefix u) p st st' s = refl
 opened_same act act' (opens.Function f) p st st' s = refl
-opened_same act act' opens.Nothing p st st' s = tt
 
 begins_same : {S T : Type 0} (act : Action → S → S) (act' : Action → T → T) (t : Tok) (p : ℕ) (st : S) (st' : T) (s : List Item) → Same (begins act t p st s) (begins act' t p st' s)
 begins_same act act' (word w) p st st' s = refl
 begins_same act act' (variable w) p st st' s = refl
 begins_same act act' (numeral n) p st st' s = refl
-begins_same act act' (symbol x) p st st' s = opened_same act act' (opening x) p st st' s
+begins_same act act' (symbol x) p st st' s = found (opening x) _ _ (λ o. opened_same act act' o p st st' s)
 begins_same act act' bad p st st' s = tt
 begins_same act act' end p st st' s = tt
 

@@ -17,3 +17,4 @@ pub mod Due
 pub mod Values
 pub mod Together
 pub mod Said
+pub mod Limits

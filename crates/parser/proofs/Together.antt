@@ -93,13 +93,16 @@ module _ (bs : List ℕ) where
   opened_keeps (opens.Truth b) p st ys s d t = acted (leaf p (truth b)) (m.subsets ∷ s) st ys tt (omega arith, d) t
   opened_keeps (opens.Prefix u) p st ys s d t = on_to (omega arith, d) t
   opened_keeps (opens.Function f) p st ys s d t = on_to (omega arith, (omega arith, d)) t
-  opened_keeps opens.Nothing p st ys s d t = tt
+
+  opening_keeps : (o : Option Opening) (p : ℕ) (st : St) (ys : List Yield) (s : List Item) → Due bs s (suc (length ys)) → TableIs bs st ys → Kept bs (given o (λ o. opened build o p st s)) (given o (λ o. opened mean o p ys s))
+  opening_keeps (Some o) p st ys s d t = opened_keeps o p st ys s d t
+  opening_keeps None p st ys s d t = tt
 
   begins_keeps : (x : Tok) (p : ℕ) (st : St) (ys : List Yield) (s : List Item) → Spelt bs x p → Due bs s (suc (length ys)) → TableIs bs st ys → Kept bs (begins build x p st s) (begins mean x p ys s)
   begins_keeps (word w) p st ys s h d t = acted (leaf p (iterating w)) (m.subsets ∷ s) st ys h (omega arith, d) t
   begins_keeps (variable w) p st ys s h d t = acted (leaf p (named w)) (m.subsets ∷ s) st ys h (omega arith, d) t
   begins_keeps (numeral n) p st ys s h d t = acted (leaf p (number n)) (m.subsets ∷ s) st ys h (omega arith, d) t
-  begins_keeps (symbol x) p st ys s h d t = opened_keeps (opening x) p st ys s d t
+  begins_keeps (symbol x) p st ys s h d t = opening_keeps (opening x) p st ys s d t
   begins_keeps bad p st ys s h d t = tt
   begins_keeps end p st ys s h d t = tt
 

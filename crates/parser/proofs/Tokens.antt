@@ -1,6 +1,6 @@
 -- Which token a reading says that it is.
 use Rattle.std.proofs.Common.{◌≡◌, ℕ, suc, ◌<◌, Bool, true, false, cond, eqb, List, [], ◌∷◌, Some, None, Option, sym, refl, ap, ◌∙◌, arith}
-use Rattle.std.proofs.lemmas.Bool.{eqb-true, ne_eqb}
+use Rattle.std.proofs.lemmas.Bool.{eqb-true, false_from_ne_true, ne_eqb}
 use Rattle.syntax.specs.Tree.{Word}
 use Rattle.syntax.specs.declared.Binary.{Binary}
 use Rattle.lexer.specs.declared.symbol.Symbol.{Symbol}
@@ -8,8 +8,7 @@ use Rattle.lexer.specs.declared.symbol.Symbol.TheVariants as the
 use Rattle.lexer.specs.Tokens.{Tok, word, variable, numeral, symbol, bad, end}
 use Rattle.lexer.specs.Toks.{Placed}
 use Rattle.parser.specs.declared.roles.Operator.{Operator}
-use Rattle.parser.specs.declared.roles.Opening.{Opening}
-use Rattle.parser.specs.Roles.{is, operator, operator_of, of_level, join_of, opening_of, word_of, variable_of}
+use Rattle.parser.specs.Roles.{is, operator, operator_of, of_level, join_of, word_of, variable_of}
 use Rattle.parser.specs.Grammar.{Is, Joins}
 use Rattle.parser.proofs.See.{symbol_is}
 
@@ -35,23 +34,12 @@ variable_is (symbol s) w e = absurd (none_some w e)
 variable_is bad w e = absurd (none_some w e)
 variable_is end w e = absurd (none_some w e)
 
-not-true : (b : Bool) → (b ≡ true → ⊥) → b ≡ false
-not-true true h = absurd (h refl)
-not-true false h = refl
-
 -- a token that a reading takes is no symbol that it does not take
 pub unlike : {A : Type 0} (f : Tok → Option A) (x : Symbol) (t : Tok) (a : A) → f t ≡ Some a → f (symbol x) ≡ None → is x t ≡ true → ⊥
 unlike f x t a e n q = none_some a (sym n ∙ ap f (sym (symbol_is x t q)) ∙ e)
 
 pub off : {A : Type 0} (f : Tok → Option A) (x : Symbol) (t : Tok) (a : A) → f t ≡ Some a → f (symbol x) ≡ None → is x t ≡ false
-off f x t a e n = not-true (is x t) (unlike f x t a e n)
-
--- the same of what begins an operand
-pub unlike_opening : (x : Symbol) (t : Tok) (o : Opening) → opening_of t ≡ o → (opening_of (symbol x) ≡ o → ⊥) → is x t ≡ true → ⊥
-unlike_opening x t o e n q = n (ap opening_of (sym (symbol_is x t q)) ∙ e)
-
-pub off_opening : (x : Symbol) (t : Tok) (o : Opening) → opening_of t ≡ o → (opening_of (symbol x) ≡ o → ⊥) → is x t ≡ false
-off_opening x t o e n = not-true (is x t) (unlike_opening x t o e n)
+off f x t a e n = false_from_ne_true (is x t) (unlike f x t a e n)
 
 -- two symbols
 pub two_symbols : (x y : Symbol) (t : Tok) → is y (symbol x) ≡ false → is x t ≡ true → is y t ≡ false

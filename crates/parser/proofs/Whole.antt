@@ -5,17 +5,14 @@ use Rattle.coverage.specs.declared.axis.Axis.{Axis}
 use Rattle.coverage.specs.declared.range.Range.{Range}
 use Rattle.syntax.specs.Tree.{Binding, Query}
 use Rattle.syntax.specs.declared.Binary.{Binary}
-use Rattle.syntax.specs.declared.Unary.{Unary}
 use Rattle.syntax.specs.declared.Unary.TheVariants as unary
-use Rattle.parser.specs.declared.roles.Function.{Function}
 use Rattle.lexer.specs.declared.symbol.Symbol.{Symbol}
 use Rattle.lexer.specs.declared.symbol.Symbol.TheVariants as the
 use Rattle.lexer.specs.Tokens.{Tok, word, variable, numeral, symbol, bad, end}
 use Rattle.lexer.specs.Toks.{Placed}
 use Rattle.parser.specs.declared.roles.Opening.{Opening}
 use Rattle.parser.specs.declared.roles.Opening.TheVariants as opens
-use Rattle.parser.specs.declared.seen.Seen.{Seen}
-use Rattle.parser.specs.Axes.{none_seen, holds, marks}
+use Rattle.parser.specs.Axes.{Seen, none_seen, holds, marks}
 use Rattle.parser.specs.Roles.{is, opening_of, number_of, word_of, variable_of}
 use Rattle.parser.specs.Actions.{Placing, Action, placing, join, slice, leaf, number, prefix}
 use Rattle.parser.specs.Actions as actions
@@ -26,7 +23,7 @@ use Rattle.parser.specs.Grammar as gr
 use Rattle.parser.specs.Grammar.{Is, Numeral, Worded, Variable, OnAxis, Sign, Joins, Opens, Limit, Ranged, Iterates, Binds, Listed, Sort, Gets, expression, level, subset, primary}
 use Rattle.parser.proofs.See.{done, symbol_is, number_is}
 use Rattle.parser.proofs.Commas.{past_iterators, past_bindings}
-use Rattle.parser.proofs.Tokens.{Free, free_symbol, free_joins, free_less, off, off_opening, word_is, variable_is, two_symbols}
+use Rattle.parser.proofs.Tokens.{Free, free_symbol, free_joins, free_less, off, none_some, word_is, variable_is, two_symbols}
 use Rattle.parser.proofs.Colons.{first, colon_left, minus_left}
 
 -- the machine over yields
@@ -138,17 +135,17 @@ reach_bindings (gr.more {n = n} {rest = rest} {vs = vs} i c l) = more_bindings n
 
 -- ---- operands
 
-begins_as : (t : Tok) (p : ℕ) (ys : List Yield) (s : List Item) (o : Opening) → opening_of t ≡ o → (opens.Nothing ≡ o → ⊥) → begins mean t p ys s ≡ opened mean o p ys s
-begins_as (word w) p ys s o e n = absurd (n e)
-begins_as (variable w) p ys s o e n = absurd (n e)
-begins_as (numeral k) p ys s o e n = absurd (n e)
-begins_as (symbol x) p ys s o e n = ap (λ o. opened mean o p ys s) e
-begins_as bad p ys s o e n = absurd (n e)
-begins_as end p ys s o e n = absurd (n e)
+begins_as : (t : Tok) (p : ℕ) (ys : List Yield) (s : List Item) (o : Opening) → opening_of t ≡ Some o → begins mean t p ys s ≡ opened mean o p ys s
+begins_as (word w) p ys s o e = absurd (none_some o e)
+begins_as (variable w) p ys s o e = absurd (none_some o e)
+begins_as (numeral k) p ys s o e = absurd (none_some o e)
+begins_as (symbol x) p ys s o e = ap (λ z. given z (λ o. opened mean o p ys s)) e
+begins_as bad p ys s o e = absurd (none_some o e)
+begins_as end p ys s o e = absurd (none_some o e)
 
-opening_step : (len : ℕ) (s : List Item) (ys : List Yield) (t : Placed) (ts : List Placed) (o : Opening) → Opens o t → (opens.Nothing ≡ o → ⊥) → V len (m.operand ∷ s) ys (t ∷ ts) ≡ onward (λ a b. V len a b ts) t.1 (opened mean o t.1 ys s)
+opening_step : (len : ℕ) (s : List Item) (ys : List Yield) (t : Placed) (ts : List Placed) (o : Opening) → Opens o t → V len (m.operand ∷ s) ys (t ∷ ts) ≡ onward (λ a b. V len a b ts) t.1 (opened mean o t.1 ys s)
 unfolding verdict
-opening_step len s ys t ts o e n = ap (onward (λ a b. V len a b ts) t.1) (begins_as t.0 t.1 ys s o e n)
+opening_step len s ys t ts o e = ap (onward (λ a b. V len a b ts) t.1) (begins_as t.0 t.1 ys s o e)
 
 -- a chain does not begin with a form's word
 abbrev NoForm : List Placed → Type 0
@@ -163,20 +160,8 @@ Starts primary ts = NoForm ts
 Starts (gr.entries e a) ts = Unit {0}
 Starts (gr.entry e a x) ts = Unit {0}
 
-no_opening : (o : Opening) → (opens.Nothing ≡ o → ⊥) → (t : Placed) → Opens o t → (is the.Condense t.0 ≡ false) × (is the.Coverage t.0 ≡ false)
-no_opening o n t e = (off_opening the.Condense t.0 o e n, off_opening the.Coverage t.0 o e n)
-
-round_some : opens.Nothing ≡ opens.Round → ⊥
-round_some e = let z : ◌≡◌ {A = ℕ} 0 1 = cc in omega arith
-
-truth_some : (b : Bool) → opens.Nothing ≡ opens.Truth b → ⊥
-truth_some b e = let z : ◌≡◌ {A = ℕ} 0 1 = cc in omega arith
-
-prefix_some : {u : Unary} → opens.Nothing ≡ opens.Prefix u → ⊥
-prefix_some e = let z : ◌≡◌ {A = ℕ} 0 1 = cc in omega arith
-
-function_some : {f : Function} → opens.Nothing ≡ opens.Function f → ⊥
-function_some e = let z : ◌≡◌ {A = ℕ} 0 1 = cc in omega arith
+no_opening : (o : Opening) (t : Placed) → Opens o t → (is the.Condense t.0 ≡ false) × (is the.Coverage t.0 ≡ false)
+no_opening o t e = (off opening_of the.Condense t.0 o e refl, off opening_of the.Coverage t.0 o e refl)
 
 starting : {x : Sort} {y : Yield} {ts us : List Placed} → Gets x y ts us → Starts x ts
 starting (gr.chain g) = tt
@@ -186,16 +171,16 @@ starting (gr.coverage a1 a2 a3 a4 a5 a6) = tt
 starting (gr.tighter g) = starting g
 starting (gr.joins q g o h) = starting g
 starting (gr.compares g o h) = starting g
-starting (gr.prefix {t = t} o g) = no_opening _ prefix_some t o
+starting (gr.prefix {t = t} o g) = no_opening _ t o
 starting (gr.plain g) = starting g
 starting (gr.whole g) = starting g
 starting (gr.bracket g o h z) = starting g
 starting (gr.number {n = n} {t = t} o) = (off number_of the.Condense t.0 n o refl, off number_of the.Coverage t.0 n o refl)
-starting (gr.truth {b = b} {t = t} o) = no_opening _ (truth_some b) t o
+starting (gr.truth {b = b} {t = t} o) = no_opening _ t o
 starting (gr.name {w = w} {t = t} o) = (off variable_of the.Condense t.0 w o refl, off variable_of the.Coverage t.0 w o refl)
 starting (gr.iterator {w = w} {t = t} o) = (off word_of the.Condense t.0 w o refl, off word_of the.Coverage t.0 w o refl)
-starting (gr.round {t = t} o g z) = no_opening _ round_some t o
-starting (gr.function {t = t} o p g z) = no_opening _ function_some t o
+starting (gr.round {t = t} o g z) = no_opening _ t o
+starting (gr.function {t = t} o p g z) = no_opening _ t o
 starting (gr.last_entry g) = tt
 starting (gr.more_entries g o h) = tt
 starting (gr.trim o g) = tt
@@ -350,20 +335,20 @@ reach (gr.compares {o = o} {a = a} {b = b} {t = t} {ts = ts} {us = us} {vs = vs}
   λ f len s ys. mainly 2 a ts (t ∷ us) (reach g) (free_joins 2 o t us j) len (m.tail 2 ∷ s) ys ∙ joining 2 o a b t us vs j (reach h) (free_less 2 vs f) len s ys,
 )
 reach (gr.prefix {u = u} {y = y} {t = t} {ts = ts} {us = us} o g) = λ f len s ys.
-    opening_step len s ys t ts (opens.Prefix u) o prefix_some ∙ reach g f len (m.acts (prefix t.1 u) ∷ s) ys ∙ done mean len (prefix t.1 u) s (y ∷ ys) us
+    opening_step len s ys t ts (opens.Prefix u) o ∙ reach g f len (m.acts (prefix t.1 u) ∷ s) ys ∙ done mean len (prefix t.1 u) s (y ∷ ys) us
 reach (gr.plain {y = y} {us = us} g) = λ f len s ys. reach g len s ys ∙ no_subsets len s (y ∷ ys) us f
 reach (gr.whole g) = reach g
 reach (gr.bracket {a = a} {b = b} {t = t} {z = z} {us = us} {vs = vs} g o h e) = λ len s ys.
     let r = reach h in
     reach g len s ys ∙ sym_step len _ (a ∷ ys) t us the.OpenSquare o ∙ r.1 len (m.subsets ∷ s) ys ∙ sym_step len _ (b ∷ ys) z vs the.CloseSquare e
 reach (gr.number {n = n} {t = t} {us = us} o) = λ len s ys. num_step len _ ys t us n o
-reach (gr.truth {b = b} {t = t} {us = us} o) = λ len s ys. opening_step len s ys t us (opens.Truth b) o (truth_some b)
+reach (gr.truth {b = b} {t = t} {us = us} o) = λ len s ys. opening_step len s ys t us (opens.Truth b) o
 reach (gr.name {w = w} {t = t} {us = us} o) = λ len s ys. step len _ ys t us (variable w) (variable_is t.0 w o)
 reach (gr.iterator {w = w} {t = t} {us = us} o) = λ len s ys. step len _ ys t us (word w) (word_is t.0 w o)
 reach (gr.round {y = y} {t = t} {z = z} {ts = ts} {us = us} o g e) = λ len s ys.
-    opening_step len s ys t ts opens.Round o round_some ∙ reach g (free_symbol 6 the.Close z us refl refl e) len (m.must the.Close ∷ m.acts (actions.wrap t.1) ∷ m.subsets ∷ s) ys ∙ sym_step len _ (y ∷ ys) z us the.Close e ∙ done mean len (actions.wrap t.1) _ (y ∷ ys) us
+    opening_step len s ys t ts opens.Round o ∙ reach g (free_symbol 6 the.Close z us refl refl e) len (m.must the.Close ∷ m.acts (actions.wrap t.1) ∷ m.subsets ∷ s) ys ∙ sym_step len _ (y ∷ ys) z us the.Close e ∙ done mean len (actions.wrap t.1) _ (y ∷ ys) us
 reach (gr.function {f = f} {y = y} {t = t} {o = p} {z = z} {ts = ts} {us = us} o q g e) = λ len s ys.
-    opening_step len s ys t _ (opens.Function f) o function_some ∙ sym_step len _ ys p ts the.Open q ∙ reach g (free_symbol 6 the.Close z us refl refl e) len (m.must the.Close ∷ m.acts (actions.apply t.1 f) ∷ m.subsets ∷ s) ys ∙ sym_step len _ (y ∷ ys) z us the.Close e ∙ done mean len (actions.apply t.1 f) _ (y ∷ ys) us
+    opening_step len s ys t _ (opens.Function f) o ∙ sym_step len _ ys p ts the.Open q ∙ reach g (free_symbol 6 the.Close z us refl refl e) len (m.must the.Close ∷ m.acts (actions.apply t.1 f) ∷ m.subsets ∷ s) ys ∙ sym_step len _ (y ∷ ys) z us the.Close e ∙ done mean len (actions.apply t.1 f) _ (y ∷ ys) us
 reach (gr.last_entry {s = e} {x = x} g) = (marks e x, λ len s ys. reach g len s ys)
 reach (gr.more_entries {b = b} {c = c} {us = us} g o h) =
     let r = reach h in

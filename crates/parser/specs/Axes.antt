@@ -4,7 +4,8 @@ use Rattle.std.specs.Str.{bytes_eq}
 use Rattle.coverage.specs.declared.axis.Axis.{Axis}
 use Rattle.coverage.specs.declared.axis.Axis.TheVariants.{X, Y, T}
 use Rattle.lexer.specs.Tokens.{Tok, word, variable, numeral, symbol, bad, end}
-use Rattle.parser.specs.declared.seen.Seen.{Seen}
+use Rattle.coverage.specs.declared.per_axis.PerAxis.{PerAxis}
+use Rattle.coverage.specs.Entries.{entry}
 
 -- the words `x`, `y` and `t`
 abbrev pub axis_named : List ℕ → Option Axis
@@ -22,13 +23,15 @@ axis_of (symbol s) = None
 axis_of bad = None
 axis_of end = None
 
+-- the axes that stand earlier in a square bracket
+abbrev pub Seen : Type 0
+Seen = PerAxis Bool
+
 abbrev pub none_seen : Seen
 none_seen = record { x = false; y = false; t = false }
 
 abbrev pub holds : Seen → Axis → Bool
-holds s X = s.x
-holds s Y = s.y
-holds s T = s.t
+holds = entry
 
 abbrev pub marks : Seen → Axis → Seen
 marks s X = record { x = true; y = s.y; t = s.t }

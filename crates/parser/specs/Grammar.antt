@@ -12,8 +12,7 @@ use Rattle.lexer.specs.Toks.{Placed}
 use Rattle.parser.specs.declared.roles.Function.{Function}
 use Rattle.parser.specs.declared.roles.Opening.{Opening}
 use Rattle.parser.specs.declared.roles.Opening.TheVariants as opening
-use Rattle.parser.specs.declared.seen.Seen.{Seen}
-use Rattle.parser.specs.Axes.{axis_of, none_seen, holds, marks}
+use Rattle.parser.specs.Axes.{Seen, axis_of, none_seen, holds, marks}
 use Rattle.parser.specs.Roles.{is, opening_of, fold_of, join_of, number_of, word_of, variable_of}
 use Rattle.parser.specs.Actions.{Placing, placing, bound, spanning}
 use Rattle.parser.specs.Actions as leaf
@@ -46,7 +45,7 @@ abbrev pub Joins : ℕ → Binary → Placed → Type 0
 Joins n o t = join_of n t.0 ≡ Some o
 
 abbrev pub Opens : Opening → Placed → Type 0
-Opens o t = opening_of t.0 ≡ o
+Opens o t = opening_of t.0 ≡ Some o
 
 -- ---- ranges, iterators, bindings
 

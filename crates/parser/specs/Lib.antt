@@ -6,9 +6,9 @@ pub mod Machine
 pub mod Grammar
 pub mod Faults
 pub mod Tables
-pub mod Ranges
 pub mod Built
 pub mod Reads
+pub mod Parsed
 pub mod Texts
 pub mod Theorem
 pub mod Says

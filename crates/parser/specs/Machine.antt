@@ -12,8 +12,7 @@ use Rattle.lexer.specs.Tokens.{Tok, word, variable, numeral, symbol, bad, end}
 use Rattle.lexer.specs.Toks.{Placed}
 use Rattle.parser.specs.declared.roles.Opening.{Opening}
 use Rattle.parser.specs.declared.roles.Opening.TheVariants as opens
-use Rattle.parser.specs.declared.seen.Seen.{Seen}
-use Rattle.parser.specs.Axes.{axis_of, none_seen, holds, marks}
+use Rattle.parser.specs.Axes.{Seen, axis_of, none_seen, holds, marks}
 use Rattle.parser.specs.Roles.{is, opening, fold_of, join_of, number_of, word_of, variable_of}
 use Rattle.parser.specs.Actions.{Placing, Leaf, number, truth, named, iterating, Action, leaf, prefix, apply, join, trim, slice, condense, pick, cover, wrap, placing, spanning}
 use Rattle.parser.specs.Actions as actions
@@ -122,14 +121,13 @@ opened act opens.Round p st s = moved (expr ∷ must Close ∷ acts (wrap p) ∷
 opened act (opens.Truth b) p st s = moved (subsets ∷ s) (act (leaf p (truth b)) st)
 opened act (opens.Prefix u) p st s = moved (operand ∷ acts (prefix p u) ∷ s) st
 opened act (opens.Function f) p st s = moved (must Open ∷ expr ∷ must Close ∷ acts (apply p f) ∷ subsets ∷ s) st
-opened act opens.Nothing p st s = stuck
 
 -- an operand's first token, with s due after the operand
 abbrev pub begins : {S : Type 0} → (Action → S → S) → Tok → ℕ → S → List Item → Moved S
 begins act (word w) p st s = moved (subsets ∷ s) (act (leaf p (iterating w)) st)
 begins act (variable w) p st s = moved (subsets ∷ s) (act (leaf p (named w)) st)
 begins act (numeral n) p st s = moved (subsets ∷ s) (act (leaf p (number n)) st)
-begins act (symbol x) p st s = opened act (opening x) p st s
+begins act (symbol x) p st s = given (opening x) (λ o. opened act o p st s)
 begins act bad p st s = stuck
 begins act end p st s = stuck
 

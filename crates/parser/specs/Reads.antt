@@ -1,55 +1,70 @@
--- What each part of the reader ensures: how far the stack and the state get by it.
-use Rattle.std.specs.Prelude.{◌≡◌, ℕ, ◌+◌, ◌<◌, ◌≤◌, Bool, true, List, [], ◌∷◌, ◌++◌, length, Some, None, Ok, Err, Option, Result}
+-- What each part of the reader ensures that builds no nodes: how far the stack gets by it.
+use Rattle.std.specs.Prelude.{◌≡◌, ℕ, ◌+◌, ◌<◌, ◌≤◌, Bool, true, false, List, [], ◌∷◌, ◌++◌, length, Some, None, Ok, Err, Option, Result, ℤ, cond}
 use Rattle.coverage.specs.declared.axis.Axis.{Axis}
+use Rattle.cursor.specs.declared.cursor.Cursor.{Cursor}
 use Rattle.syntax.specs.Tree.{Word, Binding}
 use Rattle.syntax.specs.declared.Fold.{Fold}
 use Rattle.lexer.specs.declared.symbol.Symbol.{Symbol}
 use Rattle.lexer.specs.declared.symbol.Symbol.TheVariants.{Close}
-use Rattle.lexer.specs.Tokens.{Tok}
-use Rattle.lexer.specs.Toks.{Placed, toks, consed, is_end}
+use Rattle.lexer.specs.declared.token.Lexed.{Lexed}
+use Rattle.lexer.specs.Tokens.{Tok, tok}
+use Rattle.lexer.specs.Toks.{Placed, toks, consed, is_end, Peeked}
 use Rattle.parser.specs.declared.node.Part.{Part}
 use Rattle.parser.specs.declared.node.Iteration.{Iteration}
 use Rattle.parser.specs.declared.node.Iterations.{Iterations}
 use Rattle.parser.specs.declared.node.Binding as node
 use Rattle.parser.specs.declared.node.Bindings.{Bindings}
-use Rattle.parser.specs.declared.ranges.Signed.{Signed}
-use Rattle.parser.specs.Ranges.{coordinate_of}
-use Rattle.parser.specs.declared.roles.Opening.{Opening}
-use Rattle.parser.specs.declared.node.Node.{Node}
-use Rattle.parser.specs.declared.build.Done.{Done}
-use Rattle.parser.specs.Built.{value}
-use Rattle.parser.specs.Actions.{Placing, Val, St, state, part, build, slice, iteration, iterations_of, binding, bindings_of}
-use Rattle.parser.specs.Machine.{Item, Edge, upper, trims, Verdict, refused, verdict, must, bound, follows, arg, expr, acts, Head, iterator, iterators, bindings, Moved, onward, opened}
+use Rattle.parser.specs.declared.roles.Operator.{Operator}
+use Rattle.parser.specs.Roles.{is, operator_of, between}
+use Rattle.parser.specs.Actions.{Placing, St, spanning, part, build, slice, iteration, iterations_of, binding, bindings_of}
+use Rattle.parser.specs.Machine.{Item, Use, Edge, upper, trims, used, Verdict, accepted, refused, ends, verdict, must, bound, follows, arg, expr, acts, Head, iterator, iterators, bindings}
 use Rattle.parser.specs.Machine as machine
 
--- what comes of a stack and a state from a byte on
-abbrev pub on : List ℕ → List Item → St → ℕ → Verdict St
-on bs s st at = verdict build (length bs) s st (toks bs at)
+-- what comes of a stack and a state from a place on
+abbrev pub on : Cursor → List Item → St → Verdict St
+on c s st = verdict build (length c.text.now) s st (toks c.text.now c.at)
+
+-- further on in the same text
+pub record GoesOn (old new : Cursor) : Type 0 where
+  pub text : new.text.now ≡ old.text.now
+  pub forward : old.at ≤ new.at
 
 -- ---- single tokens
 
+-- the next token is the symbol, and was passed, or is another, and was not
+pub record Eaten (w : Symbol) (old new : Cursor) (r : Bool) : Type 0 where
+  pub next : Lexed
+  pub peeked : Peeked old.text.now old.at next
+  pub told : is w (tok next.token) ≡ r
+  pub moved : new ≡ cond r next.next old
+
+-- the same with the token's place
+abbrev pub Stood : Symbol → Cursor → Cursor → Result ℕ ℕ → Type 0
+Stood w old new (Ok p) = (e : Eaten w old new true) × (e.next.place ≡ p)
+Stood w old new (Err p) = (e : Eaten w old new false) × (e.next.place ≡ p)
+
 -- the next token is one that f reads
-pub record Taken (A R : Type 0) (f : Tok → Option A) (keep : A → ℕ → R) (bs : List ℕ) (at : ℕ) (r : R) (next : ℕ) : Type 0 where
+pub record Taken (A R : Type 0) (f : Tok → Option A) (keep : A → ℕ → R) (old new : Cursor) (r : R) : Type 0 where
   pub token : Tok
   pub place : ℕ
   pub value : A
-  pub tokens : toks bs at ≡ (token, place) ∷ toks bs next
+  pub text : new.text.now ≡ old.text.now
+  pub tokens : toks old.text.now old.at ≡ (token, place) ∷ toks new.text.now new.at
   pub reads : f token ≡ Some value
   pub same : keep value place ≡ r
-  pub forward : at < next
-  pub within : next ≤ length bs
+  pub forward : old.at < new.at
 
 -- the next token, or the end of the text at p, is none
-pub record Missed (A : Type 0) (f : Tok → Option A) (bs : List ℕ) (at p : ℕ) : Type 0 where
+pub record Missed (A : Type 0) (f : Tok → Option A) (old : Cursor) (p : ℕ) : Type 0 where
   pub token : Tok
   pub rest : List Placed
-  pub tokens : toks bs at ≡ consed token p rest
+  pub tokens : toks old.text.now old.at ≡ consed token p rest
   pub none : f token ≡ None
-  pub at_end : is_end token ≡ true → p ≡ length bs
+  pub at_end : is_end token ≡ true → p ≡ length old.text.now
 
-abbrev pub TakenAs : {A R : Type 0} → (Tok → Option A) → (A → ℕ → R) → List ℕ → ℕ → Result (R × ℕ) ℕ → Type 0
-TakenAs {A} {R} f keep bs at (Ok r) = Taken A R f keep bs at r.0 r.1
-TakenAs {A} {R} f keep bs at (Err p) = Missed A f bs at p
+abbrev pub TakenAs : {A R : Type 0} → (Tok → Option A) → (A → ℕ → R) → Cursor → Cursor → Result R ℕ → Type 0
+TakenAs {A} {R} f keep old new (Ok r) = Taken A R f keep old new r
+TakenAs {A} {R} f keep old new (Err p) = Missed A f old p
 
 -- what is kept of a token
 abbrev pub as_axis : Axis → ℕ → Axis
@@ -69,108 +84,101 @@ as_variable w p = part (p + 1) (length w)
 
 -- ---- what builds nothing
 
--- the items x, read from at to next, leave the items y
-pub record Passes (x y : List Item) (bs : List ℕ) (at next : ℕ) : Type 0 where
-  pub forward : at ≤ next
-  pub within : next ≤ length bs
-  pub turns : (s : List Item) (st : St) → on bs (x ++ s) st at ≡ on bs (y ++ s) st next
+-- the items x, read from old to new, leave the items y
+pub record Passes (x y : List Item) (old new : Cursor) : Type 0 where
+  pub forward : old.at ≤ new.at
+  pub turns : (s : List Item) (st : St) → on old (x ++ s) st ≡ on new (y ++ s) st
 
 -- they cannot be read: p is the place
-abbrev pub Stops : List Item → List ℕ → ℕ → ℕ → Type 0
-Stops x bs at p = (s : List Item) (st : St) → on bs (x ++ s) st at ≡ refused p
+abbrev pub Stops : List Item → Cursor → ℕ → Type 0
+Stops x old p = (s : List Item) (st : St) → on old (x ++ s) st ≡ refused p
 
-abbrev pub Expected : Symbol → List ℕ → ℕ → Result ℕ ℕ → Type 0
-Expected w bs at (Ok n) = Passes (must w ∷ []) [] bs at n × (at < n)
-Expected w bs at (Err p) = Stops (must w ∷ []) bs at p
+abbrev pub Expected : Symbol → Cursor → Cursor → Result ℕ ℕ → Type 0
+Expected w old new (Ok p) = Passes (must w ∷ []) [] old new × (old.at < new.at)
+Expected w old new (Err p) = Stops (must w ∷ []) old p
+
+-- the end of a query
+abbrev pub Ended : Cursor → Result (Unit {0}) ℕ → Type 0
+Ended old (Ok u) = (js : List Binding) (st : St) → on old (ends js ∷ []) st ≡ accepted js st
+Ended old (Err p) = (js : List Binding) (st : St) → on old (ends js ∷ []) st ≡ refused p
 
 -- an end of a range
-pub record Bounded (bs : List ℕ) (at : ℕ) (v : Signed) (next : ℕ) : Type 0 where
-  pub forward : at < next
-  pub within : next ≤ length bs
-  pub turns : (e : Edge) (s : List Item) (st : St) → on bs (bound e ∷ s) st at ≡ on bs (follows e (coordinate_of v) s) st next
+pub record Bounded (old new : Cursor) (v : ℤ) : Type 0 where
+  pub forward : old.at < new.at
+  pub turns : (e : Edge) (s : List Item) (st : St) → on old (bound e ∷ s) st ≡ on new (follows e v s) st
 
-abbrev pub LimitRead : List ℕ → ℕ → Result (Signed × ℕ) ℕ → Type 0
-LimitRead bs at (Ok r) = Bounded bs at r.0 r.1
-LimitRead bs at (Err p) = (e : Edge) (s : List Item) (st : St) → on bs (bound e ∷ s) st at ≡ refused p
+abbrev pub LimitRead : Cursor → Cursor → Result ℤ ℕ → Type 0
+LimitRead old new (Ok v) = Bounded old new v
+LimitRead old new (Err p) = (e : Edge) (s : List Item) (st : St) → on old (bound e ∷ s) st ≡ refused p
+
+-- the upper end of a range, and its bracket
+pub record RangeEnded (old new : Cursor) (v : ℤ) : Type 0 where
+  pub forward : old.at < new.at
+  pub turns : (u : Use) (lo : ℤ) (s : List Item) (st : St) → on old (bound (upper u lo) ∷ s) st ≡ on new (used u (spanning lo v) ∷ s) st
+
+abbrev pub RangeEnds : Cursor → Cursor → Result ℤ ℕ → Type 0
+RangeEnds old new (Ok v) = RangeEnded old new v
+RangeEnds old new (Err p) = (u : Use) (lo : ℤ) (s : List Item) (st : St) → on old (bound (upper u lo) ∷ s) st ≡ refused p
 
 -- ---- iterators and bindings
 
-pub record OneIterator (bs : List ℕ) (at : ℕ) (r : Iteration) (next : ℕ) : Type 0 where
+pub record OneIterator (old new : Cursor) (r : Iteration) : Type 0 where
   pub what : Placing
   pub same : iteration what ≡ r
-  pub forward : at < next
-  pub within : next ≤ length bs
-  pub turns : (k : ℕ) (h : Head) (js : List Placing) (s : List Item) (st : St) → on bs (iterator k h js ∷ s) st at ≡ on bs (iterators k h (js ++ (what ∷ [])) ∷ s) st next
+  pub forward : old.at < new.at
+  pub turns : (k : ℕ) (h : Head) (js : List Placing) (s : List Item) (st : St) → on old (iterator k h js ∷ s) st ≡ on new (iterators k h (js ++ (what ∷ [])) ∷ s) st
 
-abbrev pub IteratorRead : List ℕ → ℕ → Result (Iteration × ℕ) ℕ → Type 0
-IteratorRead bs at (Ok r) = OneIterator bs at r.0 r.1
-IteratorRead bs at (Err p) = (k : ℕ) (h : Head) (js : List Placing) (s : List Item) (st : St) → on bs (iterator k h js ∷ s) st at ≡ refused p
+abbrev pub IteratorRead : Cursor → Cursor → Result Iteration ℕ → Type 0
+IteratorRead old new (Ok r) = OneIterator old new r
+IteratorRead old new (Err p) = (k : ℕ) (h : Head) (js : List Placing) (s : List Item) (st : St) → on old (iterator k h js ∷ s) st ≡ refused p
 
 -- all iterators of a form: no more may come
-pub record AllIterators (bs : List ℕ) (at : ℕ) (r : Iterations) (next : ℕ) : Type 0 where
+pub record AllIterators (old new : Cursor) (r : Iterations) : Type 0 where
   pub what : List Placing
   pub same : iterations_of what ≡ r
-  pub forward : at < next
-  pub within : next ≤ length bs
-  pub turns : (h : Head) (s : List Item) (st : St) → on bs (iterator 2 h [] ∷ s) st at ≡ on bs (iterators 0 h what ∷ s) st next
+  pub forward : old.at < new.at
+  pub turns : (h : Head) (s : List Item) (st : St) → on old (iterator 2 h [] ∷ s) st ≡ on new (iterators 0 h what ∷ s) st
 
-abbrev pub IteratorsRead : List ℕ → ℕ → Result (Iterations × ℕ) ℕ → Type 0
-IteratorsRead bs at (Ok r) = AllIterators bs at r.0 r.1
-IteratorsRead bs at (Err p) = (h : Head) (s : List Item) (st : St) → on bs (iterator 2 h [] ∷ s) st at ≡ refused p
+abbrev pub IteratorsRead : Cursor → Cursor → Result Iterations ℕ → Type 0
+IteratorsRead old new (Ok r) = AllIterators old new r
+IteratorsRead old new (Err p) = (h : Head) (s : List Item) (st : St) → on old (iterator 2 h [] ∷ s) st ≡ refused p
 
-pub record OneBinding (bs : List ℕ) (at : ℕ) (r : node.Binding) (next : ℕ) : Type 0 where
+pub record OneBinding (old new : Cursor) (r : node.Binding) : Type 0 where
   pub what : Binding
   pub same : binding what ≡ r
-  pub forward : at < next
-  pub within : next ≤ length bs
-  pub turns : (k : ℕ) (js : List Binding) (s : List Item) (st : St) → on bs (machine.binding k js ∷ s) st at ≡ on bs (bindings k (js ++ (what ∷ [])) ∷ s) st next
+  pub forward : old.at < new.at
+  pub turns : (k : ℕ) (js : List Binding) (s : List Item) (st : St) → on old (machine.binding k js ∷ s) st ≡ on new (bindings k (js ++ (what ∷ [])) ∷ s) st
 
-abbrev pub BindingRead : List ℕ → ℕ → Result (node.Binding × ℕ) ℕ → Type 0
-BindingRead bs at (Ok r) = OneBinding bs at r.0 r.1
-BindingRead bs at (Err p) = (k : ℕ) (js : List Binding) (s : List Item) (st : St) → on bs (machine.binding k js ∷ s) st at ≡ refused p
+abbrev pub BindingRead : Cursor → Cursor → Result node.Binding ℕ → Type 0
+BindingRead old new (Ok r) = OneBinding old new r
+BindingRead old new (Err p) = (k : ℕ) (js : List Binding) (s : List Item) (st : St) → on old (machine.binding k js ∷ s) st ≡ refused p
 
 -- all bindings of a query: no more may come
-pub record AllBindings (bs : List ℕ) (at : ℕ) (r : Bindings) (next : ℕ) : Type 0 where
+pub record AllBindings (old new : Cursor) (r : Bindings) : Type 0 where
   pub what : List Binding
   pub same : bindings_of what ≡ r
-  pub forward : at < next
-  pub within : next ≤ length bs
-  pub turns : (s : List Item) (st : St) → on bs (machine.binding 3 [] ∷ s) st at ≡ on bs (bindings 0 what ∷ s) st next
+  pub forward : old.at < new.at
+  pub turns : (s : List Item) (st : St) → on old (machine.binding 3 [] ∷ s) st ≡ on new (bindings 0 what ∷ s) st
 
-abbrev pub BindingsRead : List ℕ → ℕ → Result (Bindings × ℕ) ℕ → Type 0
-BindingsRead bs at (Ok r) = AllBindings bs at r.0 r.1
-BindingsRead bs at (Err p) = (s : List Item) (st : St) → on bs (machine.binding 3 [] ∷ s) st at ≡ refused p
+abbrev pub BindingsRead : Cursor → Cursor → Result Bindings ℕ → Type 0
+BindingsRead old new (Ok r) = AllBindings old new r
+BindingsRead old new (Err p) = (s : List Item) (st : St) → on old (machine.binding 3 [] ∷ s) st ≡ refused p
 
--- ---- expressions
+-- ---- operators and ranges ahead
 
--- the items x, with the values us on top, are read from at on, and leave the items y and the value of d.
--- No node is without a byte of its own
-pub record Reads (x y : List Item) (us : List Val) (bs : List ℕ) (at n : ℕ) (was now : List Node) (d : Done) : Type 0 where
-  pub forward : at ≤ d.next
-  pub within : d.next ≤ length bs
-  pub few : d.count + at ≤ n + d.next
-  pub turns : (s : List Item) (vs : List Val) → on bs (x ++ s) (state (us ++ vs) n was) at ≡ on bs (y ++ s) (state (value d ∷ vs) d.count now) d.next
+-- past the token if there is an operator
+abbrev pub climbed : Option Operator → Cursor → Cursor → Cursor
+climbed (Some o) next old = next
+climbed None next old = old
 
--- they cannot be read: p is the place
-abbrev pub Fails : List Item → List Val → List ℕ → ℕ → ℕ → List Node → ℕ → Type 0
-Fails x us bs at n was p = (s : List Item) (vs : List Val) → on bs (x ++ s) (state (us ++ vs) n was) at ≡ refused p
-
-abbrev pub Parsed : List Item → List Val → List ℕ → ℕ → ℕ → List Node → List Node → Result Done ℕ → Type 0
-Parsed x us bs at n was now (Ok d) = Reads x [] us bs at n was now d
-Parsed x us bs at n was now (Err p) = Fails x us bs at n was p
+-- what comes next is an operator of these levels, and was passed, or is none
+pub record Climbs (lowest top : ℕ) (old new : Cursor) (r : Option Operator) : Type 0 where
+  pub next : Lexed
+  pub peeked : Peeked old.text.now old.at next
+  pub told : r ≡ between lowest top (operator_of (tok next.token))
+  pub moved : new ≡ climbed r next.next old
 
 -- whether a range lies ahead, or else an expression
-abbrev pub Ahead : List ℕ → ℕ → Option (Signed × ℕ) → Type 0
-Ahead bs at (Some r) = (g : Bool) (a : Axis) → Passes (arg g a ∷ []) (bound (upper (trims g a) (coordinate_of r.0)) ∷ []) bs at r.1
-Ahead bs at None = (g : Bool) (a : Axis) → Passes (arg g a ∷ []) (expr ∷ must Close ∷ acts (slice g a) ∷ []) bs at at
-
--- what follows a symbol at p that begins an operand
-pub record Opens (o : Opening) (p : ℕ) (bs : List ℕ) (at n : ℕ) (was now : List Node) (d : Done) : Type 0 where
-  pub forward : at ≤ d.next
-  pub within : d.next ≤ length bs
-  pub few : d.count + at ≤ n + d.next + 1
-  pub turns : (s : List Item) (vs : List Val) → onward (λ s' st'. on bs s' st' at) p (opened build o p (state vs n was) s) ≡ on bs s (state (value d ∷ vs) d.count now) d.next
-
-abbrev pub OpenedRead : Opening → ℕ → List ℕ → ℕ → ℕ → List Node → List Node → Result Done ℕ → Type 0
-OpenedRead o p bs at n was now (Ok d) = Opens o p bs at n was now d
-OpenedRead o p bs at n was now (Err q) = (s : List Item) (vs : List Val) → onward (λ s' st'. on bs s' st' at) p (opened build o p (state vs n was) s) ≡ refused q
+abbrev pub Ahead : Cursor → Cursor → Option ℤ → Type 0
+Ahead old new (Some v) = (g : Bool) (a : Axis) → Passes (arg g a ∷ []) (bound (upper (trims g a) v) ∷ []) old new
+Ahead old new None = (g : Bool) (a : Axis) → Passes (arg g a ∷ []) (expr ∷ must Close ∷ acts (slice g a) ∷ []) old new

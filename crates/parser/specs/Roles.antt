@@ -18,7 +18,7 @@ use Rattle.lexer.specs.Tokens as tokens
 use Rattle.parser.specs.declared.roles.Operator.{Operator}
 use Rattle.parser.specs.declared.roles.Function.TheVariants as function
 use Rattle.parser.specs.declared.roles.Opening.{Opening}
-use Rattle.parser.specs.declared.roles.Opening.TheVariants.{Round, Truth, Prefix, Function, Nothing}
+use Rattle.parser.specs.declared.roles.Opening.TheVariants.{Round, Truth, Prefix, Function}
 
 abbrev pub ranked : ℕ → Binary → Operator
 ranked n o = record { level = n; binary = o }
@@ -43,21 +43,21 @@ operator s =
     None)))))))))))))
 
 -- what begins an operand besides numerals and names
-abbrev pub opening : Symbol → Opening
+abbrev pub opening : Symbol → Option Opening
 opening s =
-    cond (same_symbol s symbol.Open) (Round)
-    (cond (same_symbol s symbol.True) (Truth true)
-    (cond (same_symbol s symbol.False) (Truth false)
-    (cond (same_symbol s symbol.Minus) (Prefix unary.Minus)
-    (cond (same_symbol s symbol.Not) (Prefix unary.Not)
-    (cond (same_symbol s symbol.Abs) (Function function.Abs)
-    (cond (same_symbol s symbol.Add) (Function (function.Over (Whole Sum)))
-    (cond (same_symbol s symbol.Min) (Function (function.Over (Whole Least)))
-    (cond (same_symbol s symbol.Max) (Function (function.Over (Whole Greatest)))
-    (cond (same_symbol s symbol.Count) (Function (function.Over Count))
-    (cond (same_symbol s symbol.SomeOf) (Function (function.Over (Whole Any)))
-    (cond (same_symbol s symbol.AllOf) (Function (function.Over (Whole Every)))
-    Nothing)))))))))))
+    cond (same_symbol s symbol.Open) (Some Round)
+    (cond (same_symbol s symbol.True) (Some (Truth true))
+    (cond (same_symbol s symbol.False) (Some (Truth false))
+    (cond (same_symbol s symbol.Minus) (Some (Prefix unary.Minus))
+    (cond (same_symbol s symbol.Not) (Some (Prefix unary.Not))
+    (cond (same_symbol s symbol.Abs) (Some (Function function.Abs))
+    (cond (same_symbol s symbol.Add) (Some (Function (function.Over (Whole Sum))))
+    (cond (same_symbol s symbol.Min) (Some (Function (function.Over (Whole Least))))
+    (cond (same_symbol s symbol.Max) (Some (Function (function.Over (Whole Greatest))))
+    (cond (same_symbol s symbol.Count) (Some (Function (function.Over Count)))
+    (cond (same_symbol s symbol.SomeOf) (Some (Function (function.Over (Whole Any))))
+    (cond (same_symbol s symbol.AllOf) (Some (Function (function.Over (Whole Every))))
+    None)))))))))))
 
 -- how a condense form gathers: `+ min max and or`
 abbrev pub folding : Symbol → Option Fold
@@ -135,10 +135,10 @@ variable_of bad = None
 variable_of end = None
 
 -- what a token begins where an operand is due, besides numerals and names
-abbrev pub opening_of : Tok → Opening
-opening_of (word w) = Nothing
-opening_of (variable w) = Nothing
-opening_of (numeral n) = Nothing
+abbrev pub opening_of : Tok → Option Opening
+opening_of (word w) = None
+opening_of (variable w) = None
+opening_of (numeral n) = None
 opening_of (tokens.symbol s) = opening s
-opening_of bad = Nothing
-opening_of end = Nothing
+opening_of bad = None
+opening_of end = None

@@ -6,13 +6,12 @@ use Rattle.parser.specs.declared.node.Node.{Node}
 use Rattle.parser.specs.declared.fault.TextFault.{TextFault}
 use Rattle.parser.specs.declared.fault.TextFault.TheVariants.{TooLong, NoToken, NoQuery, TooLarge}
 use Rattle.parser.specs.declared.text.Reading.{Reading}
-use Rattle.parser.specs.Actions.{St, state, top, bindings_of}
-use Rattle.parser.specs.Machine.{Verdict, accepted, refused, query}
-use Rattle.parser.specs.Reads.{on}
+use Rattle.parser.specs.Actions.{St, state, top, build, bindings_of}
+use Rattle.parser.specs.Machine.{Verdict, accepted, refused, verdict, query}
 
 -- what the machine makes of a text, over a table of nodes
 abbrev pub judged : List ℕ → List Node → Verdict St
-judged bs tbl = on bs query (state [] 0 tbl) 0
+judged bs tbl = verdict build (length bs) query (state [] 0 tbl) (toks bs 0)
 
 abbrev pub reading : List Binding → St → Reading
 reading bs st = record { bindings = bindings_of bs; root = (top st).root; inner = (top st).inner; count = st.count }

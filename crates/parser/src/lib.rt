@@ -2,15 +2,13 @@
 // being the beginning of any query.
 #![tactic(auto)]
 
-pub mod build;
 pub mod expr;
 pub mod fault;
 pub mod laws;
 pub mod lists;
 pub mod node;
-pub mod ranges;
+pub mod parser;
 pub mod roles;
-pub mod seen;
 pub mod take;
 pub mod text;
 

@@ -25,7 +25,6 @@ pub enum Opening {
     Truth(bool),
     Prefix(Unary),
     Function(Function),
-    Nothing,
 }
 
 /// The operator that a symbol is between two operands.
@@ -53,23 +52,23 @@ pub fn operator_of(s: Symbol) -> Option<Operator>
 }
 
 /// What a symbol begins where an operand is due: brackets, a truth word, a prefix or a function.
-pub fn opening_of(s: Symbol) -> Opening
+pub fn opening_of(s: Symbol) -> Option<Opening>
     ensures { result ≡ opening_role s }
 {
     match s {
-        Symbol::Open => Opening::Round,
-        Symbol::True => Opening::Truth(true),
-        Symbol::False => Opening::Truth(false),
-        Symbol::Minus => Opening::Prefix(Unary::Minus),
-        Symbol::Not => Opening::Prefix(Unary::Not),
-        Symbol::Abs => Opening::Function(Function::Abs),
-        Symbol::Add => Opening::Function(Function::Over(Reduce::Whole(Fold::Sum))),
-        Symbol::Min => Opening::Function(Function::Over(Reduce::Whole(Fold::Least))),
-        Symbol::Max => Opening::Function(Function::Over(Reduce::Whole(Fold::Greatest))),
-        Symbol::Count => Opening::Function(Function::Over(Reduce::Count)),
-        Symbol::SomeOf => Opening::Function(Function::Over(Reduce::Whole(Fold::Any))),
-        Symbol::AllOf => Opening::Function(Function::Over(Reduce::Whole(Fold::Every))),
-        _ => Opening::Nothing,
+        Symbol::Open => Some(Opening::Round),
+        Symbol::True => Some(Opening::Truth(true)),
+        Symbol::False => Some(Opening::Truth(false)),
+        Symbol::Minus => Some(Opening::Prefix(Unary::Minus)),
+        Symbol::Not => Some(Opening::Prefix(Unary::Not)),
+        Symbol::Abs => Some(Opening::Function(Function::Abs)),
+        Symbol::Add => Some(Opening::Function(Function::Over(Reduce::Whole(Fold::Sum)))),
+        Symbol::Min => Some(Opening::Function(Function::Over(Reduce::Whole(Fold::Least)))),
+        Symbol::Max => Some(Opening::Function(Function::Over(Reduce::Whole(Fold::Greatest)))),
+        Symbol::Count => Some(Opening::Function(Function::Over(Reduce::Count))),
+        Symbol::SomeOf => Some(Opening::Function(Function::Over(Reduce::Whole(Fold::Any)))),
+        Symbol::AllOf => Some(Opening::Function(Function::Over(Reduce::Whole(Fold::Every)))),
+        _ => None,
     }
 }
 

@@ -1,41 +1,28 @@
-ghost use Rattle.std.specs.Prelude.{◌≡◌, ℕ, ◌≤◌, length};
+ghost use Rattle.std.specs.Prelude.{◌≡◌, ◌<◌, Some, None, IfOk, IfErr};
+ghost use Rattle.std.specs.Option.{option_map};
 ghost use Rattle.lexer.specs.Tokens.{tok};
+ghost use Rattle.lexer.specs.Toks.{Peeked};
+ghost use Rattle.lexer.specs.declared.token.Lexed.{Lexed as ALexed};
 ghost use Rattle.parser.specs.Axes.{axis_of};
-ghost use Rattle.parser.specs.Roles.{is, fold_of, number_of, word_of, variable_of};
-ghost use Rattle.parser.specs.Reads.{Expected, TakenAs, as_axis, as_fold, as_number, as_word, as_variable, LimitRead};
+ghost use Rattle.parser.specs.Roles.{fold_of, number_of, word_of, variable_of};
+ghost use Rattle.parser.specs.Reads.{GoesOn, Stood, Expected, Eaten, Ended, TakenAs, as_axis, as_fold, as_number, as_word, as_variable, LimitRead, Ahead, RangeEnds};
 
 use crate::node::Part;
-use crate::ranges::Signed;
 use crate::roles::fold_of;
 use coverage::Axis;
-use lexer::{Symbol, Token, peek, same, same_symbol};
+use cursor::Cursor;
+use lexer::{Lexed, Symbol, Token, peek};
 use syntax::Fold;
-
-/// Whether a token is this symbol.
-pub fn is_symbol(token: Token, s: Symbol) -> bool
-    ensures { result ≡ is s (tok token.entry) }
-{
-    match token {
-        Token::Symbol(u) => same_symbol(u, s),
-        _ => false,
-    }
-}
 
 /// The axis whose word a token is.
 pub fn axis_of(token: Token) -> Option<Axis>
     ensures { result ≡ axis_of (tok token.entry) }
 {
-    let Token::Word(w) = token else {
-        return None;
-    };
-    if same(w, b"x") {
-        Some(Axis::X)
-    } else if same(w, b"y") {
-        Some(Axis::Y)
-    } else if same(w, b"t") {
-        Some(Axis::T)
-    } else {
-        None
+    match token {
+        Token::Word(b"x") => Some(Axis::X),
+        Token::Word(b"y") => Some(Axis::Y),
+        Token::Word(b"t") => Some(Axis::T),
+        _ => None,
     }
 }
 
@@ -49,106 +36,163 @@ pub fn number_of(token: Token) -> Option<u32>
     }
 }
 
-/// Takes a symbol that is due: the byte after it, or the place of what stands there.
-pub fn expect(text: &[u8], at: usize, want: Symbol) -> Result<usize, usize>
-    requires { at ≤ length text.now }
-    ensures { Expected want text.now at result }
+/// Takes the next token, whatever it is.
+pub(crate) fn next<'t>(from: &mut Cursor<'t>) -> Lexed<'t>
+    ensures on { GoesOn from.old from.new }
+    ensures next { Peeked from.old.text.now from.old.at result }
+    ensures moved { from.new ≡ result.next }
 {
-    let t = peek(text, at);
-    if is_symbol(t.token, want) {
-        Ok(t.next)
+    let t = peek(from);
+    *from = t.next;
+    t
+}
+
+// Takes the next token, if `read` makes something of it; else tells its place.
+fn take<'t, T, F: Fn(Lexed<'t>) -> Option<T>>(from: &mut Cursor<'t>, read: F) -> Result<T, usize>
+    requires { (t : ALexed) → Peeked from.old.text.now from.old.at t → F.pre read t }
+    ensures on { GoesOn from.old from.new }
+    ensures taken { IfOk result (λ v. (t : ALexed) × Peeked from.old.text.now from.old.at t × F.post read t (Some v) × (from.new ≡ t.next)) }
+    ensures missed { IfErr result (λ p. (t : ALexed) × Peeked from.old.text.now from.old.at t × F.post read t None × (t.place ≡ p)) }
+{
+    let t = peek(from);
+    let Some(taken) = read(t) else {
+        return Err(t.place);
+    };
+    *from = t.next;
+    Ok(taken)
+}
+
+/// Takes a symbol that is due, or leaves what stands there. It tells the place of either.
+pub fn expect(from: &mut Cursor<'_>, want: Symbol) -> Result<usize, usize>
+    ensures on { GoesOn from.old from.new }
+    ensures next { Stood want from.old from.new result }
+    ensures read { Expected want from.old from.new result }
+{
+    let t = peek(from);
+    if t.token == Token::Symbol(want) {
+        *from = t.next;
+        Ok(t.place)
     } else {
         Err(t.place)
+    }
+}
+
+/// Goes past a symbol if it comes next, and answers whether it does.
+pub(crate) fn eat(from: &mut Cursor<'_>, symbol: Symbol) -> bool
+    ensures on { GoesOn from.old from.new }
+    ensures read { Eaten symbol from.old from.new result }
+{
+    expect(from, symbol).is_ok()
+}
+
+/// Takes the end of the text.
+pub(crate) fn take_end(from: &mut Cursor<'_>) -> Result<(), usize>
+    ensures on { GoesOn from.old from.new }
+    ensures read { Ended from.old result }
+{
+    let t = next(from);
+    match t.token {
+        Token::End => Ok(()),
+        _ => Err(t.place),
     }
 }
 
 /// Takes the word of an axis.
-pub fn axis_at(text: &[u8], at: usize) -> Result<(Axis, usize), usize>
-    requires { at ≤ length text.now }
-    ensures { TakenAs axis_of as_axis text.now at result }
+pub fn take_axis(from: &mut Cursor<'_>) -> Result<Axis, usize>
+    ensures on { GoesOn from.old from.new }
+    ensures read { TakenAs axis_of as_axis from.old from.new result }
 {
-    let t = peek(text, at);
-    match axis_of(t.token) {
-        Some(a) => Ok((a, t.next)),
-        None => Err(t.place),
-    }
+    take(from, |t| axis_of(t.token))
 }
 
 /// Takes a word.
-pub fn word_at(text: &[u8], at: usize) -> Result<(Part, usize), usize>
-    requires { at ≤ length text.now }
-    ensures { TakenAs word_of as_word text.now at result }
+pub fn take_word(from: &mut Cursor<'_>) -> Result<Part, usize>
+    ensures on { GoesOn from.old from.new }
+    ensures read { TakenAs word_of as_word from.old from.new result }
 {
-    let t = peek(text, at);
+    take(from, |t| match t.token {
+        Token::Word(w) => Some(Part {
+            place: t.place,
+            length: w.len(),
+        }),
+        _ => None,
+    })
+}
+
+// The word after a `$`.
+fn after_dollar(t: Lexed<'_>) -> Option<Part>
+    requires { t.place < usize.MAX }
+    ensures { result ≡ option_map (λ w. as_variable w t.entry.place) (variable_of (tok t.entry.token)) }
+{
     match t.token {
-        Token::Word(w) => Ok((
-            Part {
-                place: t.place,
-                length: w.len(),
-            },
-            t.next,
-        )),
-        _ => Err(t.place),
+        Token::Variable(w) => Some(Part {
+            place: t.place + 1,
+            length: w.len(),
+        }),
+        _ => None,
     }
 }
 
 /// Takes a `$` word: the word without its `$`.
-pub fn variable_at(text: &[u8], at: usize) -> Result<(Part, usize), usize>
-    requires { at ≤ length text.now }
-    ensures { TakenAs variable_of as_variable text.now at result }
+pub fn take_variable(from: &mut Cursor<'_>) -> Result<Part, usize>
+    ensures on { GoesOn from.old from.new }
+    ensures read { TakenAs variable_of as_variable from.old from.new result }
 {
-    let t = peek(text, at);
-    match t.token {
-        Token::Variable(w) => Ok((
-            Part {
-                place: t.place + 1,
-                length: w.len(),
-            },
-            t.next,
-        )),
-        _ => Err(t.place),
-    }
+    take(from, after_dollar)
 }
 
 /// Takes the sign of a condense form.
-pub fn sign_at(text: &[u8], at: usize) -> Result<(Fold, usize), usize>
-    requires { at ≤ length text.now }
-    ensures { TakenAs fold_of as_fold text.now at result }
+pub fn take_sign(from: &mut Cursor<'_>) -> Result<Fold, usize>
+    ensures on { GoesOn from.old from.new }
+    ensures read { TakenAs fold_of as_fold from.old from.new result }
 {
-    let t = peek(text, at);
-    let Token::Symbol(s) = t.token else {
-        return Err(t.place);
-    };
-    match fold_of(s) {
-        Some(f) => Ok((f, t.next)),
-        None => Err(t.place),
-    }
+    take(from, |t| match t.token {
+        Token::Symbol(s) => fold_of(s),
+        _ => None,
+    })
 }
 
 /// Takes a numeral.
-pub fn number_at(text: &[u8], at: usize) -> Result<(u32, usize), usize>
-    requires { at ≤ length text.now }
-    ensures { TakenAs number_of as_number text.now at result }
+pub fn take_number(from: &mut Cursor<'_>) -> Result<u32, usize>
+    ensures on { GoesOn from.old from.new }
+    ensures read { TakenAs number_of as_number from.old from.new result }
 {
-    let t = peek(text, at);
-    match number_of(t.token) {
-        Some(n) => Ok((n, t.next)),
-        None => Err(t.place),
-    }
+    take(from, |t| number_of(t.token))
 }
 
 /// Takes an end of a range: a numeral with at most one minus.
-pub fn limit(text: &[u8], at: usize) -> Result<(Signed, usize), usize>
-    requires { at ≤ length text.now }
-    ensures { LimitRead text.now at result }
+pub fn take_limit(from: &mut Cursor<'_>) -> Result<i64, usize>
+    ensures on { GoesOn from.old from.new }
+    ensures read { LimitRead from.old from.new result }
 {
-    let t = peek(text, at);
-    if let Some(size) = number_of(t.token) {
-        Ok((Signed { minus: false, size }, t.next))
-    } else if is_symbol(t.token, Symbol::Minus) {
-        let (size, next) = number_at(text, t.next)?;
-        Ok((Signed { minus: true, size }, next))
-    } else {
-        Err(t.place)
+    let minus = eat(from, Symbol::Minus);
+    let size = i64::from(take_number(from)?);
+    Ok(if minus { -size } else { size })
+}
+
+/// Takes the first end of a range and its colon, if both come next.
+pub(crate) fn lower_end(from: &mut Cursor<'_>) -> Option<i64>
+    ensures on { GoesOn from.old from.new }
+    ensures read { Ahead from.old from.new result }
+{
+    let mut ahead = *from;
+    let minus = eat(&mut ahead, Symbol::Minus);
+    let t = peek(&ahead);
+    let size = i64::from(number_of(t.token)?);
+    ahead = t.next;
+    if !eat(&mut ahead, Symbol::Colon) {
+        return None;
     }
+    *from = ahead;
+    Some(if minus { -size } else { size })
+}
+
+/// Takes the second end of a range and the bracket that closes it.
+pub(crate) fn upper_end(from: &mut Cursor<'_>) -> Result<i64, usize>
+    ensures on { GoesOn from.old from.new }
+    ensures read { RangeEnds from.old from.new result }
+{
+    let hi = take_limit(from)?;
+    expect(from, Symbol::Close)?;
+    Ok(hi)
 }

@@ -1,4 +1,4 @@
-ghost use Rattle.std.specs.Prelude.{◌≡◌, ℕ, ◌≤◌, true, length, is_ok, Err};
+ghost use Rattle.std.specs.Prelude.{◌≡◌, ℕ, true, is_ok, Err};
 ghost use Rattle.lexer.specs.Toks.{toks};
 ghost use Rattle.parser.specs.declared.fault.TextFault.TheVariants.{NoQuery};
 ghost use Rattle.parser.specs.Derived.{DerivedIsSaid, Means};
@@ -7,12 +7,12 @@ ghost use Rattle.parser.specs.Says.{Said, text_says};
 ghost use Rattle.parser.specs.Texts.{TableAfter, WholeRead, answered, judged};
 ghost use Rattle.parser.specs.Theorem.{Clean, Refusable, Meant, grammatical};
 
-use crate::expr::expr;
 use crate::fault::TextFault;
-use crate::lists::bindings_at;
+use crate::lists::bindings;
 use crate::node::{Bindings, Node};
-use crate::take::expect;
-use lexer::{Symbol, Token, first_bad, peek};
+use crate::parser::Parser;
+use crate::take::{expect, take_end};
+use lexer::{Symbol, first_bad};
 
 /// A query that was read: its bindings, the node of its expression, how deep expressions stand in that
 /// one (12 stands for all depths from 12 on), and how many nodes there are.
@@ -30,29 +30,39 @@ const MOST_CONSTRUCTS: usize = 64;
 
 const DEEPEST_INNER: usize = 11;
 
-// Reads all of a text as a query, or tells the place of the first token with which no query begins.
-fn whole(text: &[u8], nodes: &mut [Node]) -> Result<Reading, usize>
-    ensures { WholeRead text.now nodes.old nodes.new result }
-{
-    let at = expect(text, 0, Symbol::For)?;
-    let (bindings, at) = bindings_at(text, at)?;
-    let at = expect(text, at, Symbol::Return)?;
-    let at = expect(text, at, Symbol::Encode)?;
-    let at = expect(text, at, Symbol::Open)?;
-    let d = expr(text, at, nodes, 0)?;
-    let at = expect(text, d.next, Symbol::Comma)?;
-    let at = expect(text, at, Symbol::Rows)?;
-    let at = expect(text, at, Symbol::Close)?;
-    let t = peek(text, at);
-    match t.token {
-        Token::End => Ok(Reading {
+impl Parser<'_, '_> {
+    ghost use Rattle.parser.specs.Parsed.{Keeps, QueryRead};
+
+    // Reads all of a text as a query, or tells the place of the first token with which no query begins.
+    fn query(&mut self) -> Result<Reading, usize>
+        ensures keeps { Keeps self.old self.new }
+        ensures read { QueryRead self.old self.new result }
+    {
+        expect(&mut self.from, Symbol::For)?;
+        let bindings = bindings(&mut self.from)?;
+        expect(&mut self.from, Symbol::Return)?;
+        expect(&mut self.from, Symbol::Encode)?;
+        expect(&mut self.from, Symbol::Open)?;
+        let d = self.expr()?;
+        expect(&mut self.from, Symbol::Comma)?;
+        expect(&mut self.from, Symbol::Rows)?;
+        expect(&mut self.from, Symbol::Close)?;
+        take_end(&mut self.from)?;
+        Ok(Reading {
             bindings,
             root: d.root,
             inner: d.inner,
-            count: d.count,
-        }),
-        _ => Err(t.place),
+            count: self.count,
+        })
     }
+}
+
+// Reads all of a text as a query into a table of nodes.
+fn whole(text: &[u8], nodes: &mut [Node]) -> Result<Reading, usize>
+    ensures { WholeRead text.now nodes.old nodes.new result }
+{
+    let mut parser = Parser::new(text, nodes);
+    parser.query()
 }
 
 /// Reads a text as a query into the table of nodes, or tells why not. The table, where it has room for 64
@@ -81,14 +91,9 @@ fn answer(text: &[u8], nodes: &mut [Node]) -> Result<Reading, TextFault>
     if let Some(p) = first_bad(text) {
         return Err(TextFault::NoToken(p));
     }
-    match whole(text, nodes) {
-        Err(p) => Err(TextFault::NoQuery(p)),
-        Ok(q) => {
-            if q.count > MOST_CONSTRUCTS || q.inner > DEEPEST_INNER {
-                Err(TextFault::TooLarge)
-            } else {
-                Ok(q)
-            }
-        }
+    let q = whole(text, nodes).map_err(TextFault::NoQuery)?;
+    if q.count > MOST_CONSTRUCTS || q.inner > DEEPEST_INNER {
+        return Err(TextFault::TooLarge);
     }
+    Ok(q)
 }

@@ -1,16 +1,26 @@
-use Rattle.std.proofs.Common.{cond, sym, refl, ◌∙◌}
-use Rattle.parser.specs.Machine.{moved, stuck}
-use Rattle.parser.proofs.See.{turn, fails, symbol_some}
+use Rattle.std.proofs.Common.{◌≡◌, true, false, sym, refl, ◌∙◌}
+use Rattle.lexer.specs.Tokens.{tok}
+use Rattle.parser.specs.Roles.{is}
+use Rattle.parser.proofs.See.{equals}
+use Rattle.parser.proofs.Takes.{passes, stops}
 use Rattle.parser.proofs.take.expect.Goals as goal
 
-pub returns-then-is_symbol : goal.returns-then-is_symbol
-returns-then-is_symbol c =
-    let p = c.peek-t.ensures in
-    let e = sym c.is_symbol.ensures ∙ c.if-is_symbol.true in
-    let some = symbol_some _ _ e in
-    (record { forward = p.after; within = p.within; turns = λ s st. turn p some _ st s st (λ i. cond (e i) (moved s st) stuck) }, p.forward some)
+pub returns-then-eq-clause-next : goal.returns-then-eq-clause-next
+returns-then-eq-clause-next c =
+    let e : is c.args.want (tok c.peek-t.result.token) ≡ true = sym (equals c.peek-t.result.token c.args.want) ∙ sym c.eq.ensures ∙ c.if-eq.true in
+    (record { next = c.peek-t.result; peeked = c.peek-t.ensures; told = e; moved = refl }, refl)
 
-pub returns-else-is_symbol : goal.returns-else-is_symbol
-returns-else-is_symbol c = λ s st.
-    let e = sym c.is_symbol.ensures ∙ c.if-is_symbol.false in
-    fails c.peek-t.ensures _ st (λ q. refl) (λ i. cond (e i) (moved s st) stuck)
+pub returns-then-eq-clause-read : goal.returns-then-eq-clause-read
+returns-then-eq-clause-read c =
+    let e : is c.args.want (tok c.peek-t.result.token) ≡ true = sym (equals c.peek-t.result.token c.args.want) ∙ sym c.eq.ensures ∙ c.if-eq.true in
+    passes (record { next = c.peek-t.result; peeked = c.peek-t.ensures; told = e; moved = refl })
+
+pub returns-else-eq-clause-next : goal.returns-else-eq-clause-next
+returns-else-eq-clause-next c =
+    let e : is c.args.want (tok c.peek-t.result.token) ≡ false = sym (equals c.peek-t.result.token c.args.want) ∙ sym c.eq.ensures ∙ c.if-eq.false in
+    (record { next = c.peek-t.result; peeked = c.peek-t.ensures; told = e; moved = refl }, refl)
+
+pub returns-else-eq-clause-read : goal.returns-else-eq-clause-read
+returns-else-eq-clause-read c =
+    let e : is c.args.want (tok c.peek-t.result.token) ≡ false = sym (equals c.peek-t.result.token c.args.want) ∙ sym c.eq.ensures ∙ c.if-eq.false in
+    stops c.args.from.now c.args.from.now (record { next = c.peek-t.result; peeked = c.peek-t.ensures; told = e; moved = refl })
