@@ -1,4 +1,5 @@
 pub mod Told
+pub mod Expects
 pub mod Rules
 pub mod Trees
 pub mod Reach

@@ -1,5 +1,5 @@
 -- The rule of each construct: from what is worked out of its operands, its own domain, kind and promise, or its refusal.
-use Rattle.std.specs.Prelude.{ℕ, ◌+◌, ◌*◌, Bool, ◌&&◌, pos, Some, None, Ok, Err, Option, Result, nat_le}
+use Rattle.std.specs.Prelude.{ℕ, ◌+◌, ◌*◌, Bool, pos, Some, None, Ok, Err, Option, Result, nat_le}
 use Rattle.coverage.specs.declared.axis.Axis.{Axis}
 use Rattle.coverage.specs.declared.range.Range.{Range}
 use Rattle.coverage.specs.declared.kind.Kind.{Kind}
@@ -11,9 +11,8 @@ use Rattle.syntax.specs.declared.Binary.{Binary}
 use Rattle.syntax.specs.declared.Fold.{Fold}
 use Rattle.syntax.specs.declared.Reduce.{Reduce}
 use Rattle.language.specs.Spans.{number, unary_kind, binary_kind, fold_kind, widened, reduce_kind}
-use Rattle.language.specs.Fits.{operands_fit}
 use Rattle.language.specs.Typing.{About, named_extents, named_kind, iterator_kind, joint_extents}
-use Rattle.language.specs.Faults.{most_reads, unless, first, domains_fit, divisor_fault, name_fault, iterator_fault, unary_fault, binary_fault, reduce_fault, trim_fault, slice_fault, condense_fault, condense_where_fault, form_fault}
+use Rattle.language.specs.Faults.{most_reads, unless, name_fault, iterator_fault, unary_fault, binary_fault, reduce_fault, trim_fault, slice_fault, condense_fault, condense_where_fault, form_fault}
 use Rattle.language.specs.Queries.{Announced}
 
 -- a domain, a kind and a promise
@@ -44,10 +43,6 @@ iterator_rule r place = accepts (iterator_fault r place) (announce no_extents (i
 -- a prefix, or `abs`
 abbrev pub unary_rule : Unary → Announced → ℕ → Result Announced Refusal
 unary_rule o p place = accepts (unary_fault o p.kind p.promise place) (announce p.extents (unary_kind o p.kind) p.promise)
-
--- the tests of two operands: 7 where they do not fit, then 8 where the divisor's span holds 0
-abbrev pub operands_fault : Binary → Announced → Announced → ℕ → Option Refusal
-operands_fault o p q place = first (unless (operands_fit o p.kind q.kind && domains_fit p.extents q.extents) 7 place) (divisor_fault o q.kind place)
 
 -- two operands: both are read
 abbrev pub binary_rule : Binary → Announced → Announced → ℕ → Result Announced Refusal
@@ -82,6 +77,11 @@ abbrev pub condense_where_rule : Fold → ℕ → Announced → Announced → �
 condense_where_rule o n w p place =
     accepts (condense_where_fault o n w.extents w.kind p.extents p.kind (n * (w.promise + p.promise)) place)
     (announce no_extents (widened o (fold_kind o n p.kind)) (n * (w.promise + p.promise)))
+
+-- condense, without a `where` or with one
+abbrev pub either_condense_rule : Fold → ℕ → Option Announced → Announced → ℕ → Result Announced Refusal
+either_condense_rule o n None p place = condense_rule o n p place
+either_condense_rule o n (Some w) p place = condense_where_rule o n w p place
 
 -- a coverage form has its iterators' domain
 abbrev pub form_rule : Extents → Announced → ℕ → Result Announced Refusal

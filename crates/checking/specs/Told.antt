@@ -1,6 +1,8 @@
 -- What the code works out and how it refuses, in the words of the language's definitions.
 use Rattle.std.specs.Prelude.{◌≤◌, Some, None, Ok, Err, Option, Result}
+use lib.Dec.{T_prop}
 use Rattle.coverage.specs.declared.axis.Axis.{Axis}
+use Rattle.coverage.specs.declared.range.Range.{Range}
 use Rattle.coverage.specs.declared.description.Description.{Description}
 use Rattle.coverage.specs.declared.refusal.Refusal.{Refusal}
 use Rattle.coverage.specs.Axes.{Ordered, cells, extents}
@@ -31,11 +33,6 @@ abbrev pub told : Result Typed CheckFault → Result Announced Refusal
 told (Ok t) = Ok (part_of t)
 told (Err f) = Err (refusal_of f)
 
--- the refusal of tests alone, or none where they pass
-abbrev pub refused_by : Result (Unit {0}) CheckFault → Option Refusal
-refused_by (Ok u) = None
-refused_by (Err f) = Some (refusal_of f)
-
 -- what is said of a coverage that a `$` name stands for
 abbrev pub about_of : Description → About
 about_of a = record { extents = extents a.domain; kind = a.kind }
@@ -47,3 +44,8 @@ pub record Limited (p : Announced) : Type 0 where
   pub ordered : (a : Axis) → Ordered (p.extents a)
   pub few : cells p.extents ≤ most_cells
   pub reads : p.promise ≤ most_reads
+
+-- an order of ends has one proof at most
+pub Ordered-prop : (r : Option Range) → IsProp (Ordered r)
+Ordered-prop None = hlevel
+Ordered-prop (Some r) = hlevel T_prop

@@ -1,11 +1,11 @@
 // The domain of a construct, from the domains of its operands.
 ghost use Rattle.std.specs.Prelude.{◌≡◌, ◌≤◌};
-ghost use Rattle.coverage.specs.Axes.{cells, extents, is_none, no_axes, set_axis};
+ghost use Rattle.coverage.specs.Axes.{cells, extents, no_axes};
 ghost use Rattle.language.specs.Faults.{domains_fit};
 ghost use Rattle.language.specs.Limits.{most_cells};
 ghost use Rattle.language.specs.Typing.{joint_extents};
 
-use coverage::{AXES, Axis, Domain, Range};
+use coverage::{AXES, Domain};
 
 /// The domain of a single value.
 pub(crate) const NO_AXES: Domain = Domain {
@@ -22,26 +22,11 @@ pub(crate) fn cells_of(domain: Domain) -> usize
     domain.cells()
 }
 
-/// Whether a domain lacks an axis.
-pub(crate) fn lacks(domain: Domain, axis: Axis) -> bool
-    ensures { result ≡ is_none (extents domain axis) }
-{
-    match domain.on(axis) {
-        Some(_) => false,
-        None => true,
-    }
-}
-
 /// Whether a domain has no axes: that of a single value.
 pub(crate) fn is_single(domain: Domain) -> bool
     ensures { result ≡ no_axes (extents domain) }
 {
-    for axis in AXES {
-        if !lacks(domain, axis) {
-            return false;
-        }
-    }
-    true
+    AXES.iter().all(|axis| domain.on(*axis).is_none())
 }
 
 /// Whether two domains fit: they are equal, or one has no axes.
@@ -56,17 +41,4 @@ pub(crate) fn joint(d: Domain, e: Domain) -> Domain
     ensures { extents result ≡ joint_extents (extents d) (extents e) }
 {
     if is_single(d) { e } else { d }
-}
-
-/// A domain with another range on one axis, or none.
-pub(crate) fn with_axis(domain: Domain, axis: Axis, range: Option<Range>) -> Domain
-    ensures { extents result ≡ set_axis (extents domain) axis range }
-{
-    let mut changed = domain;
-    match axis {
-        Axis::X => changed.x = range,
-        Axis::Y => changed.y = range,
-        Axis::T => changed.t = range,
-    }
-    changed
 }

@@ -1,11 +1,10 @@
+ghost use Rattle.std.specs.Prelude.{◌≡◌, Ok, Err, if◌then◌else◌};
 ghost use Rattle.checking.specs.Told.{refusal_of};
-ghost use Rattle.language.specs.Faults.{refuse};
-ghost use Rattle.std.specs.Prelude.{◌≡◌};
 
 use coverage::{Layer, Refusal, Returned};
 
 /// Why the check refuses a construct, with the byte where the construct begins.
-#[derive(Clone, Copy)]
+#[derive(Clone, Copy, Debug, PartialEq, Eq)]
 pub enum CheckFault {
     /// A word that stands for nothing, or that is bound twice.
     Unbound(usize),
@@ -23,30 +22,31 @@ pub enum CheckFault {
     HighPromise(usize),
 }
 
-impl CheckFault {
+impl From<CheckFault> for Refusal {
+    ghost from_gives = { λ fault refusal. refusal ≡ refusal_of fault };
+
     /// The fault as it is told.
-    pub fn refusal(self) -> Refusal
-        ensures { result ≡ refusal_of self }
-    {
-        match self {
-            CheckFault::Unbound(place) => check_says(5, place),
-            CheckFault::Outside(place) => check_says(6, place),
-            CheckFault::Unfit(place) => check_says(7, place),
-            CheckFault::ZeroDivisor(place) => check_says(8, place),
-            CheckFault::WideSpan(place) => check_says(9, place),
-            CheckFault::ManyCells(place) => check_says(10, place),
-            CheckFault::HighPromise(place) => check_says(11, place),
+    fn from(fault: CheckFault) -> Refusal {
+        let (number, place) = match fault {
+            CheckFault::Unbound(place) => (5, place),
+            CheckFault::Outside(place) => (6, place),
+            CheckFault::Unfit(place) => (7, place),
+            CheckFault::ZeroDivisor(place) => (8, place),
+            CheckFault::WideSpan(place) => (9, place),
+            CheckFault::ManyCells(place) => (10, place),
+            CheckFault::HighPromise(place) => (11, place),
+        };
+        Refusal {
+            layer: Layer::Check,
+            number,
+            returned: Returned::One(place),
         }
     }
 }
 
-/// A refusal of the check's layer.
-fn check_says(number: u32, place: usize) -> Refusal
-    ensures { result ≡ refuse number place }
+/// A fault, unless a test holds.
+pub(crate) fn ensure(holds: bool, fault: CheckFault) -> Result<(), CheckFault>
+    ensures { result ≡ (if holds then Ok tt else Err fault) }
 {
-    Refusal {
-        layer: Layer::Check,
-        number,
-        returned: Returned::One(place),
-    }
+    holds.then_some(()).ok_or(fault)
 }

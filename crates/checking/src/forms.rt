@@ -1,9 +1,12 @@
 // The rules of condense and coverage forms. Iterators are taken up from the last to the first; their
 // domain is what the form goes through.
+#![tactic(auto, unfolding(language::specs::Faults::condense_fault, language::specs::Faults::condense_where_fault, language::specs::Faults::form_fault, language::specs::Faults::iterators_fault))]
+
 ghost use Rattle.std.specs.Prelude.{◌≡◌, ◌≤◌, ◌&&◌, List};
+ghost use Rattle.std.specs.Option.{option_map};
 ghost use Rattle.checking.specs.Reach.{Goes, told_domain};
-ghost use Rattle.checking.specs.Rules.{condense_rule, condense_where_rule, form_rule};
-ghost use Rattle.checking.specs.Told.{Limited, part_of, told};
+ghost use Rattle.checking.specs.Rules.{either_condense_rule, form_rule};
+ghost use Rattle.checking.specs.Told.{part_of, told};
 ghost use Rattle.checking.specs.Trees.{iterators_rule};
 ghost use Rattle.coverage.specs.Axes.{cells, extents};
 ghost use Rattle.language.specs.Faults.{body_fits, where_fits};
@@ -11,9 +14,10 @@ ghost use Rattle.language.specs.Iterators.{Ranges, new_words};
 ghost use Rattle.language.specs.Limits.{most_cells};
 ghost use Rattle.syntax.specs.Tree.{Iterator};
 
+use crate::accepted::Accepted;
 use crate::domains::{NO_AXES, cells_of, is_single};
-use crate::fault::CheckFault;
-use crate::fits::{fold_takes, is_truth};
+use crate::fault::{CheckFault, ensure};
+use crate::fits::{Expected, fits_as, fold_expects};
 use crate::kinds::{fold_kind, widened_kind};
 use crate::limits::within_limits;
 use crate::reach::Reach;
@@ -25,78 +29,50 @@ use syntax::Fold;
 pub fn iterators_rule(fresh: bool, reach: Reach, place: usize) -> Result<Domain, CheckFault>
     ensures { (g : Ranges) (is : List Iterator) → Goes is reach → fresh ≡ new_words is g → told_domain result ≡ iterators_rule g is place }
 {
-    if !fresh {
-        return Err(CheckFault::Unbound(place));
-    }
-    if !reach.own {
-        return Err(CheckFault::Outside(place));
-    }
-    if reach.domain.cells() >= TOO_MANY {
-        return Err(CheckFault::ManyCells(place));
-    }
-    Ok(reach.domain)
+    ensure(fresh, CheckFault::Unbound(place))?;
+    let domain = reach.ok_or(CheckFault::Outside(place))?;
+    ensure(domain.cells() < TOO_MANY, CheckFault::ManyCells(place))?;
+    Ok(domain)
 }
 
 /// Whether the body of a condense form fits: of the kind that the operator takes, without axes.
 fn body_fits(o: Fold, body: Typed) -> bool
     ensures { result ≡ body_fits o (extents body.domain) body.kind }
 {
-    fold_takes(o, body.kind) && is_single(body.domain)
+    fits_as(fold_expects(o), body.kind) && is_single(body.domain)
 }
 
 /// Whether its `where` fits: a truth without axes.
 fn where_fits(test: Typed) -> bool
     ensures { result ≡ where_fits (extents test.domain) test.kind }
 {
-    is_truth(test.kind) && is_single(test.domain)
+    fits_as(Expected::Truth, test.kind) && is_single(test.domain)
 }
 
-/// Whether both fit.
-fn both_fit(o: Fold, test: Typed, body: Typed) -> bool
-    ensures { result ≡ (where_fits (extents test.domain) test.kind && body_fits o (extents body.domain) body.kind) }
-{
-    where_fits(test) && body_fits(o, body)
-}
-
-/// A condense form over all points of its iterators' domain.
-pub fn condense_rule(o: Fold, over: Domain, body: Typed, place: usize) -> Result<Typed, CheckFault>
-    requires few { cells (extents over) ≤ most_cells }
-    requires limited { Limited (part_of body) }
-    ensures { told result ≡ condense_rule o (cells (extents over)) (part_of body) place }
-{
-    if !body_fits(o, body) {
-        return Err(CheckFault::Unfit(place));
-    }
-    let n = cells_of(over);
-    let typed = Typed {
-        domain: NO_AXES,
-        kind: fold_kind(o, n, body.kind),
-        promise: n as u64 * body.promise,
-    };
-    within_limits(typed, place)
-}
-
-/// A condense form over those points where its `where` holds.
-pub fn condense_where_rule(
+/// A condense form over all points of its iterators' domain, or over those where its `where` holds.
+pub fn condense_rule(
     o: Fold,
     over: Domain,
-    test: Typed,
-    body: Typed,
+    test: Option<Accepted>,
+    body: Accepted,
     place: usize,
 ) -> Result<Typed, CheckFault>
-    requires few { cells (extents over) ≤ most_cells }
-    requires tested { Limited (part_of test) }
-    requires limited { Limited (part_of body) }
-    ensures { told result ≡ condense_where_rule o (cells (extents over)) (part_of test) (part_of body) place }
+    requires { cells (extents over) ≤ most_cells }
+    ensures { told result ≡ either_condense_rule o (cells (extents over)) (option_map (λ (t : Accepted). part_of t.typed) test) (part_of body.typed) place }
 {
-    if !both_fit(o, test, body) {
-        return Err(CheckFault::Unfit(place));
-    }
+    let fits = test.is_none_or(|test| where_fits(test.typed)) && body_fits(o, body.typed);
+    ensure(fits, CheckFault::Unfit(place))?;
     let n = cells_of(over);
+    let kind = fold_kind(o, n, body);
+    let reads = body.typed.promise;
+    let (kind, reads) = match test {
+        Some(test) => (widened_kind(o, kind), test.typed.promise + reads),
+        None => (kind, reads),
+    };
     let typed = Typed {
         domain: NO_AXES,
-        kind: widened_kind(o, fold_kind(o, n, body.kind)),
-        promise: n as u64 * (test.promise + body.promise),
+        kind,
+        promise: n as u64 * reads,
     };
     within_limits(typed, place)
 }
@@ -105,12 +81,9 @@ pub fn condense_where_rule(
 pub fn form_rule(over: Domain, body: Typed, place: usize) -> Result<Typed, CheckFault>
     ensures { told result ≡ form_rule (extents over) (part_of body) place }
 {
-    if !is_single(body.domain) {
-        return Err(CheckFault::Unfit(place));
-    }
+    ensure(is_single(body.domain), CheckFault::Unfit(place))?;
     Ok(Typed {
         domain: over,
-        kind: body.kind,
-        promise: body.promise,
+        ..body
     })
 }

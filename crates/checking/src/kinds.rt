@@ -1,93 +1,57 @@
-// The kind of a construct, from the kinds of its operands.
+// The kind of a construct, from what is worked out of its operands.
 ghost use Rattle.std.specs.Prelude.{◌≡◌, ◌≤◌, false, ◌&&◌};
-ghost use Rattle.coverage.specs.declared.kind.Kind.TheVariants.{Number};
+ghost use Rattle.coverage.specs.Axes.{cells, extents};
 ghost use Rattle.language.specs.Faults.{is_division};
-ghost use Rattle.language.specs.Limits.{InBounds, most_cells};
-ghost use Rattle.language.specs.Spans.{binary_kind, corners, fold_kind, holds_zero, reduce_kind, span_of, unary_kind, widened};
-ghost use Rattle.language.specs.Operators.{arithmetic};
-ghost use Rattle.spans.specs.Pairs.{Bounded, spanned};
-ghost use Rattle.syntax.specs.declared.Binary.TheVariants.{Numbers};
+ghost use Rattle.language.specs.Limits.{most_cells};
+ghost use Rattle.language.specs.Spans.{binary_kind, fold_kind, holds_zero, reduce_kind, span_of, unary_kind, widened};
 
+use crate::accepted::Accepted;
 use coverage::{Kind, Range};
-use spans::{
-    Span, difference, holds_zero, hull, magnitude, negation, product, quotient, sum, times,
-    with_zero,
-};
+use spans::{corners, holds_zero, hull, magnitude, negation, times, with_zero};
 use syntax::{Arithmetic, Binary, Fold, Reduce, Unary};
 
 /// The lowest and the highest value of a kind.
-pub(crate) fn span_of(kind: Kind) -> Span
-    requires { InBounds kind }
-    ensures ends { spanned result ≡ span_of kind }
-    ensures bounded { Bounded result }
+pub(crate) fn span_of(kind: Kind) -> Range
+    ensures { result ≡ span_of kind }
 {
-    (kind.low(), kind.high())
-}
-
-/// The numbers of a span.
-pub(crate) fn numbers(span: Span) -> Kind
-    ensures { result ≡ Number (spanned span) }
-{
-    Kind::Number(Range {
-        lo: span.0,
-        hi: span.1,
-    })
+    Range {
+        lo: kind.low(),
+        hi: kind.high(),
+    }
 }
 
 /// The kind of a prefix, or of `abs`.
-pub(crate) fn unary_kind(o: Unary, kind: Kind) -> Kind
-    requires { InBounds kind }
-    ensures { result ≡ unary_kind o kind }
+pub(crate) fn unary_kind(o: Unary, operand: Accepted) -> Kind
+    ensures { result ≡ unary_kind o operand.typed.kind }
 {
     match o {
-        Unary::Minus => numbers(negation(span_of(kind))),
+        Unary::Minus => Kind::Number(negation(operand.span())),
         Unary::Not => Kind::Truth,
-        Unary::Abs => numbers(magnitude(span_of(kind))),
+        Unary::Abs => Kind::Number(magnitude(operand.span())),
     }
 }
 
-/// The span of `+ - * /`; a divisor's span does not hold 0.
-fn arithmetic_span(o: Arithmetic, a: Span, b: Span) -> Span
-    requires left { Bounded a }
-    requires right { Bounded b }
-    requires apart { (is_division (Numbers o) && holds_zero (spanned b)) ≡ false }
-    ensures { spanned result ≡ corners (arithmetic o) (spanned a) (spanned b) }
+/// The kind of two operands; a divisor's span does not hold 0.
+pub(crate) fn binary_kind(o: Binary, left: Accepted, right: Accepted) -> Kind
+    requires { (is_division o && holds_zero (span_of right.typed.kind)) ≡ false }
+    ensures { result ≡ binary_kind o left.typed.kind right.typed.kind }
 {
     match o {
-        Arithmetic::Plus => sum(a, b),
-        Arithmetic::Subtract => difference(a, b),
-        Arithmetic::Multiply => product(a, b),
-        Arithmetic::Divide => quotient(a, b),
-    }
-}
-
-/// The kind of two operands.
-pub(crate) fn binary_kind(o: Binary, j: Kind, k: Kind) -> Kind
-    requires left { InBounds j }
-    requires right { InBounds k }
-    requires apart { (is_division o && holds_zero (span_of k)) ≡ false }
-    ensures { result ≡ binary_kind o j k }
-{
-    match o {
-        Binary::Numbers(sign) => numbers(arithmetic_span(sign, span_of(j), span_of(k))),
-        Binary::Overlay => numbers(hull(span_of(j), span_of(k))),
-        Binary::Compares(_) => Kind::Truth,
-        Binary::Truths(_) => Kind::Truth,
+        Binary::Numbers(sign) => Kind::Number(corners(sign, left.span(), right.span())),
+        Binary::Overlay => Kind::Number(hull(left.span().range, right.span().range)),
+        Binary::Compares(_) | Binary::Truths(_) => Kind::Truth,
     }
 }
 
 /// The kind of `n` cells or points of one kind made one.
-pub(crate) fn fold_kind(o: Fold, n: usize, kind: Kind) -> Kind
-    requires few { n ≤ most_cells }
-    requires bounded { InBounds kind }
-    ensures { result ≡ fold_kind o n kind }
+pub(crate) fn fold_kind(o: Fold, n: usize, body: Accepted) -> Kind
+    requires { n ≤ most_cells }
+    ensures { result ≡ fold_kind o n body.typed.kind }
 {
     match o {
-        Fold::Sum => numbers(times(n, span_of(kind))),
-        Fold::Least => numbers(span_of(kind)),
-        Fold::Greatest => numbers(span_of(kind)),
-        Fold::Every => Kind::Truth,
-        Fold::Any => Kind::Truth,
+        Fold::Sum => Kind::Number(times(n, body.span())),
+        Fold::Least | Fold::Greatest => Kind::Number(body.span().range),
+        Fold::Every | Fold::Any => Kind::Truth,
     }
 }
 
@@ -96,33 +60,28 @@ pub(crate) fn widened_kind(o: Fold, kind: Kind) -> Kind
     ensures { result ≡ widened o kind }
 {
     match o {
-        Fold::Sum => numbers(with_zero((kind.low(), kind.high()))),
-        Fold::Least => kind,
-        Fold::Greatest => kind,
-        Fold::Every => kind,
-        Fold::Any => kind,
+        Fold::Sum => Kind::Number(with_zero(span_of(kind))),
+        Fold::Least | Fold::Greatest | Fold::Every | Fold::Any => kind,
     }
 }
 
-/// The kind of a function over `n` cells; `count` gives 0 to `n`.
-pub(crate) fn reduce_kind(o: Reduce, n: usize, kind: Kind) -> Kind
-    requires few { n ≤ most_cells }
-    requires bounded { InBounds kind }
-    ensures { result ≡ reduce_kind o n kind }
+/// The kind of a function over all cells; `count` gives 0 to how many they are.
+pub(crate) fn reduce_kind(o: Reduce, operand: Accepted) -> Kind
+    ensures { result ≡ reduce_kind o (cells (extents operand.typed.domain)) operand.typed.kind }
 {
+    let n = operand.cells();
     match o {
-        Reduce::Whole(fold) => fold_kind(fold, n, kind),
-        Reduce::Count => numbers((0, n as i64)),
+        Reduce::Whole(fold) => fold_kind(fold, n, operand),
+        Reduce::Count => Kind::Number(Range {
+            lo: 0,
+            hi: n as i64,
+        }),
     }
 }
 
 /// Whether an operator divides, by a kind whose span holds 0.
 pub(crate) fn divides_by_zero(o: Binary, divisor: Kind) -> bool
-    requires { InBounds divisor }
     ensures { result ≡ (is_division o && holds_zero (span_of divisor)) }
 {
-    match o {
-        Binary::Numbers(Arithmetic::Divide) => holds_zero(span_of(divisor)),
-        _ => false,
-    }
+    matches!(o, Binary::Numbers(Arithmetic::Divide)) && holds_zero(span_of(divisor))
 }

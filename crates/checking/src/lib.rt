@@ -1,7 +1,9 @@
-//! The check's rules: what each construct of a query is, from what its operands are. A rule answers the
-//! domain, kind and promise of the construct, or the first fault by number, at the construct's place.
+//! The check's rules: what each construct of a query is, from what its operands are. A rule takes operands
+//! that were accepted, and answers the domain, kind and promise of the construct, or the first fault, at the
+//! construct's place.
 #![tactic(auto)]
 
+pub mod accepted;
 pub mod domains;
 pub mod fault;
 pub mod fits;
@@ -16,12 +18,13 @@ pub mod reach;
 pub mod subsets;
 pub mod typed;
 
+pub use accepted::Accepted;
 pub use fault::CheckFault;
-pub use forms::{condense_rule, condense_where_rule, form_rule, iterators_rule};
+pub use forms::{condense_rule, form_rule, iterators_rule};
 pub use laws::trees_go_by_the_rules;
 pub use leaves::{iterator_rule, name_rule, numeral_rule, truth_rule};
 pub use operators::{binary_rule, reduce_rule, unary_rule};
 pub use query::query_rule;
-pub use reach::Reach;
+pub use reach::{Reach, preceded_by, reach_of_none};
 pub use subsets::{slice_rule, trim_rule};
 pub use typed::Typed;

@@ -1,6 +1,6 @@
 -- What the limits give: ends in order, sizes that fit, few cells and strips.
 use Rattle.std.proofs.Common.{◌≡◌, ◌*◌, ◌≤◌, Bool, true, false, cond, not, List, [], ◌∷◌, Some, None, Option, refl, subst, mul-pos, one-mul, mul-one, arith, leb-true}
-use borrow.Author.Tests.{clash, not-true}
+use borrow.Author.Tests.{clash}
 use lib.Signed.{le_z}
 use Rattle.std.proofs.lemmas.Int.{ints}
 use Rattle.std.proofs.lemmas.Nat.{mul-le}
@@ -23,9 +23,6 @@ pub bounded_ordered : (d : Extents) → bounded d ≡ true → (a : Axis) → Or
 bounded_ordered d h a = axis_ordered (d a) (each (λ b. axis_bounded (d b)) (and_right (not (is_none (d X))) _ h) a)
 
 -- x is there
-pub bounded_x : (d : Extents) → bounded d ≡ true → is_none (d X) ≡ false
-bounded_x d h = not-true (is_none (d X)) (and_left (not (is_none (d X))) _ h)
-
 pub few_cells : (d : Extents) → few d ≡ true → cells d ≤ 65536
 few_cells d h = leb-true (cells d) 65536 h
 

@@ -1,5 +1,6 @@
 -- Ranges and domains that are compared.
-use Rattle.std.proofs.Common.{◌≡◌, Bool, true, false, ◌&&◌, ℤ, Some, None, Option, refl, ap₂, arith}
+use Rattle.std.proofs.Common.{◌≡◌, Bool, ◌&&◌, ℤ, Some, None, Option, refl, sym, ◌∙◌, ap₂, arith}
+use Rattle.std.proofs.Math.Bool.{and-true}
 use Rattle.std.proofs.lemmas.Int.{ints}
 use Rattle.std.proofs.lemmas.Grind.{common_steps}
 use Rattle.std.specs.Option.{option_eq}
@@ -20,11 +21,7 @@ same_range_eq None (Some r) = refl
 same_range_eq (Some q) None = refl
 same_range_eq (Some q) (Some r) = ap₂ (λ a b. a && b) (same_z_eq q.lo r.lo) (same_z_eq q.hi r.hi)
 
-last_one : (a b : Bool) → a ≡ b → a ≡ (b && true)
-last_one a true e = e
-last_one a false e = e
-
 -- the derived equality of domains compares the ends on each axis
 pub same_domain_eq : (d e : Domain) → (axis_eq d.x e.x && (axis_eq d.y e.y && axis_eq d.t e.t)) ≡ same_domain (extents d) (extents e)
 same_domain_eq d e =
-    ap₂ (λ a b. a && b) (same_range_eq d.x e.x) (ap₂ (λ a b. a && b) (same_range_eq d.y e.y) (last_one _ _ (same_range_eq d.t e.t)))
+    ap₂ (λ a b. a && b) (same_range_eq d.x e.x) (ap₂ (λ a b. a && b) (same_range_eq d.y e.y) (same_range_eq d.t e.t ∙ sym (and-true _)))

@@ -97,6 +97,11 @@ abbrev pub lowest_on : Option Range → ℤ
 lowest_on None = pos 0
 lowest_on (Some r) = r.lo
 
+-- the highest coordinate of an axis, 0 where it is absent
+abbrev pub highest_on : Option Range → ℤ
+highest_on None = pos 0
+highest_on (Some r) = r.hi
+
 -- how far a coordinate stands from the lowest of its axis
 abbrev pub step_of : Option Range → ℤ → ℕ
 step_of None v = 0

@@ -1,6 +1,9 @@
-ghost use Rattle.std.specs.Prelude.{◌≡◌, ◌+◌, ◌*◌, ◌%◌, ◌<◌, ◌≤◌, min, pos, ◌+ℤ◌};
-ghost use Rattle.coverage.specs.Axes.{Holds, coord_of, in_range, lowest_on, on_axis, same_range, size_of, step_of, width};
+ghost use Rattle.std.specs.Prelude.{◌≡◌, ◌+◌, ◌*◌, ◌%◌, ◌<◌, ◌≤◌, min, pos, ◌+ℤ◌, false};
+ghost use Rattle.std.specs.Range.{range_inclusive_end, range_inclusive_exhausted, range_inclusive_start};
+ghost use Rattle.coverage.specs.Axes.{Holds, coord_of, highest_on, in_range, lowest_on, on_axis, same_range, size_of, step_of, width};
 ghost use Rattle.coverage.specs.Limits.{axis_bounded, ordered};
+
+use std::ops::RangeInclusive;
 
 /// Whole numbers from a lowest to a highest, both included: coordinates on an axis, or values of a kind.
 #[derive(Clone, Copy, Debug, PartialEq, Eq)]
@@ -64,6 +67,15 @@ pub fn lowest(axis: Option<Range>) -> i64
     ensures { result ≡ lowest_on axis }
 {
     axis.map_or(0, |range| range.lo)
+}
+
+/// The coordinates of an axis from the lowest up, 0 alone where it is absent.
+pub fn coordinates(axis: Option<Range>) -> RangeInclusive<i64>
+    ensures lowest { range_inclusive_start result ≡ lowest_on axis }
+    ensures highest { range_inclusive_end result ≡ highest_on axis }
+    ensures all { range_inclusive_exhausted result ≡ false }
+{
+    axis.map_or(0..=0, |range| range.lo..=range.hi)
 }
 
 /// How far a coordinate stands from the lowest of its axis.

@@ -1,4 +1,6 @@
-ghost use Rattle.std.specs.Prelude.{◌≡◌, ◌≤◌, ℕ, ◌+◌, ◌<◌, length, drop, Bool, slice_get, ◌≢◌, Some, MatchBool, MatchResult};
+ghost use Rattle.std.specs.Prelude.{◌≡◌, ◌≢◌, ℕ, ◌+◌, ◌<◌, ◌≤◌, Bool, Some, ◌++◌, length, drop, slice_get, MatchBool, MatchResult};
+
+use crate::lengths::{common_length, run_length};
 
 /// A place in a text, at most its end.
 #[derive(Clone, Copy)]
@@ -8,11 +10,10 @@ pub struct Cursor<'a> {
     pub ghost within: { at ≤ length text.now },
 }
 
-use crate::lengths::{common_length, run_length};
-
 impl<'a> Cursor<'a> {
     ghost use Rattle.std.specs.List.{prefix_len, between};
     ghost use Rattle.cursor.specs.Tests.{Computes};
+    ghost use Rattle.cursor.specs.Rest.{rest};
     ghost use Rattle.cursor.specs.Words.{stand};
 
     /// The start of a text.
@@ -30,15 +31,23 @@ impl<'a> Cursor<'a> {
         self.text.get(self.at).copied()
     }
 
+    /// The text from the place on.
+    pub fn rest(&self) -> &'a [u8]
+        ensures { result.now ≡ rest self.now }
+    {
+        &self.text[self.at..]
+    }
+
     /// Goes past the longest run of bytes of which the test holds, and answers the run.
     pub fn run<F: Fn(u8) -> bool>(&mut self, test: F) -> &'a [u8]
         requires { F.IsAlwaysCallable test }
         ensures text { self.new.text.now ≡ self.old.text.now }
         ensures forward { self.old.at ≤ self.new.at }
         ensures run { result.now ≡ between self.old.at self.new.at self.old.text.now }
+        ensures rest { rest self.old ≡ result.now ++ rest self.new }
         ensures by_test { (p : ℕ → Bool) → Computes F.Fn p test → self.new.at ≡ self.old.at + prefix_len p (drop self.old.at self.old.text.now) }
     {
-        let rest = &self.text[self.at..];
+        let rest = self.rest();
         let length = run_length(rest, test);
         self.at += length;
         &rest[..length]
@@ -61,7 +70,7 @@ impl<'a> Cursor<'a> {
         ensures text { self.new.text.now ≡ self.old.text.now }
         ensures read { MatchResult result (λ _. (self.new.at ≡ self.old.at + length word.now) × (between self.old.at self.new.at self.old.text.now ≡ word.now)) (λ p. (self.new.at ≡ self.old.at) × (p ≡ self.old.at + stand word.now (drop self.old.at self.old.text.now)) × (p < self.old.at + length word.now)) }
     {
-        let length = common_length(word, &self.text[self.at..]);
+        let length = common_length(word, self.rest());
         if length < word.len() {
             return Err(self.at + length);
         }

@@ -1,99 +1,85 @@
--- Two numerals of any length, compared digit after digit.
-use Rattle.std.proofs.Common.{◌≡◌, ℕ, zero, suc, ◌+◌, ◌-◌, ◌*◌, ◌<◌, ◌≤◌, Bool, true, false, cond, ltb, List, [], ◌∷◌, length, get_or, take, sym, refl, ap, ◌∙◌, add-one, arith, ltb-false, ltb-true, le-ltb, lt-ltb}
-use Rattle.std.proofs.lemmas.List.Sums.{fold_more}
-use Rattle.std.proofs.lemmas.List.{take_all}
-use Rattle.std.proofs.lemmas.Bool.{cond_both}
+-- Two numerals of any length, compared by how many digits they have and then digit after digit.
+use Rattle.std.proofs.Common.{◌≡◌, ◌≢◌, ℕ, suc, ◌+◌, ◌<◌, ◌≤◌, Bool, true, cond, eqb, List, [], ◌∷◌, length, get_or, drop, Some, Option, sym, refl, ap, ◌∙◌, subst, one-add, arith, eqb-true, nat_lt, lt-ltb, le-ltb}
+use Rattle.std.specs.List.{fold, prefix_len}
+use Rattle.std.specs.Cmp.{nat_cmp_is}
+use Rattle.std.specs.Cmp.Lexicographic.{slice_partial_cmp}
+use Rattle.std.specs.Ordering.{nat_cmp, partial_ordering_then, is_some_and, is_gt}
+use Rattle.std.specs.declared.cmp.Ordering.{Ordering}
+use Rattle.std.specs.declared.cmp.Ordering.TheVariants.{Less, Equal, Greater}
+use Rattle.std.proofs.lemmas.Bool.{eqb-false}
+use Rattle.std.proofs.lemmas.Cmp.{ranked, by_ranked}
 use Rattle.coverage.proofs.Bools.{by_test, and_left, and_right}
-use Rattle.lines.specs.Numerals.{is_digit, all_digits, digit_onto, worth, digit_at}
-use Rattle.lines.proofs.Words.{digit_high}
+use Rattle.lines.specs.Numerals.{is_digit, all_digits, digit_onto, worth}
+use Rattle.lines.proofs.Words.{digit_low, digit_high}
 
--- what the first i places of a numeral that is set to a width are worth
-abbrev pub worth_to : List ℕ → ℕ → ℕ → ℕ
-worth_to ds w zero = 0
-worth_to ds w (suc i) = worth_to ds w i * 10 + digit_at ds w i
+-- what is larger stays larger with further digits, where the other has no more of them
+below : (xs ys : List ℕ) (m n : ℕ) → m < n → length xs ≤ length ys → all_digits xs ≡ true → fold digit_onto m xs < fold digit_onto n ys
+below [] [] m n h l d = h
+below [] (y ∷ ys) m n h l d = below [] ys m (digit_onto n y) (omega arith) (omega arith) d
+below (x ∷ xs) [] m n h l d = absurd (omega arith)
+below (x ∷ xs) (y ∷ ys) m n h l d = below xs ys (digit_onto m x) (digit_onto n y) (let e = digit_high x (and_left (is_digit x) (all_digits xs) d) in omega arith) (omega arith) (and_right (is_digit x) (all_digits xs) d)
 
-digit_in : (ds : List ℕ) (k : ℕ) → all_digits ds ≡ true → get_or ds k 0 ≤ 57
-digit_in [] k h = omega arith
-digit_in (d ∷ ds) zero h = digit_high d (and_left (is_digit d) (all_digits ds) h)
-digit_in (d ∷ ds) (suc k) h = digit_in ds k (and_right (is_digit d) (all_digits ds) h)
+-- how slices of numbers compare
+abbrev pub order : List ℕ → List ℕ → Option Ordering
+order xs ys = slice_partial_cmp (λ x y. Some (nat_cmp x y)) xs ys
 
-digit_small : (ds : List ℕ) (w i : ℕ) → all_digits ds ≡ true → digit_at ds w i ≤ 9
-digit_small ds w i h =
-    let k = digit_in ds (i - (w - length ds)) h in
-    cond_both (ltb i (w - length ds)) 0 (get_or ds (i - (w - length ds)) 0 - 48) (λ x. x ≤ 9) (λ e. omega arith) (λ e. omega arith)
+-- as many digits are worth as they compare
+as_long : (xs ys : List ℕ) (m : ℕ) → length xs ≡ length ys → all_digits xs ≡ true → all_digits ys ≡ true → order xs ys ≡ Some (nat_cmp (fold digit_onto m xs) (fold digit_onto m ys))
+as_long [] [] m l d e = ap (λ (o : Ordering). Some o) (nat_cmp_is m m Equal refl)
+as_long [] (y ∷ ys) m l d e = absurd (omega arith)
+as_long (x ∷ xs) [] m l d e = absurd (omega arith)
+as_long (x ∷ xs) (y ∷ ys) m l d e =
+    let dx = and_right (is_digit x) (all_digits xs) d in
+    let dy = and_right (is_digit y) (all_digits ys) e in
+    let lx = digit_low x (and_left (is_digit x) (all_digits xs) d) in
+    let ly = digit_low y (and_left (is_digit y) (all_digits ys) e) in
+    let step = λ (o : Ordering) (h : nat_cmp x y ≡ o) (k : o ≡ nat_cmp (fold digit_onto (digit_onto m x) xs) (fold digit_onto (digit_onto m y) ys)) (f : partial_ordering_then (Some o) (order xs ys) ≡ Some o). ap (λ (c : Ordering). partial_ordering_then (Some c) (order xs ys)) h ∙ f ∙ ap (λ (c : Ordering). Some c) k in
+    by_ranked _ _ _ (nat_cmp x y) (ranked x y (nat_cmp x y) refl)
+    (λ o h. step Less o (nat_cmp_is _ _ Less (below xs ys (digit_onto m x) (digit_onto m y) (omega arith) (omega arith) dx)) refl)
+    (λ o h. ap (λ (c : Ordering). partial_ordering_then (Some c) (order xs ys)) o ∙ as_long xs ys (digit_onto m x) (omega arith) dx dy ∙ ap (λ (c : ℕ). Some (nat_cmp (fold digit_onto (digit_onto m x) xs) (fold digit_onto (digit_onto m c) ys))) h)
+    (λ o h. step Greater o (nat_cmp_is _ _ Greater (below ys xs (digit_onto m y) (digit_onto m x) (omega arith) (omega arith) dy)) refl)
 
-front_none : (ds : List ℕ) (w i : ℕ) → i ≤ w - length ds → worth_to ds w i ≡ 0
-front_none ds w zero h = refl
-front_none ds w (suc i) h =
-    let z = front_none ds w i (omega arith) in
-    let d : digit_at ds w i ≡ 0 = ap (λ (c : Bool). cond c 0 (get_or ds (i - (w - length ds)) 0 - 48)) (lt-ltb i (w - length ds) (omega arith)) in
-    omega (arith, z, d)
+-- the digits of a number from the first that is not 0 on: they are worth the same
+pub record Significant (ds s : List ℕ) : Type 0 where
+  pub digits : all_digits s ≡ true
+  pub first : 0 < length s → 48 < get_or s 0 0
+  pub same : worth s ≡ worth ds
 
-front_some : (ds : List ℕ) (w k : ℕ) → k ≤ length ds → worth_to ds w ((w - length ds) + k) ≡ worth (take k ds)
-front_some ds w zero h = let e : (w - length ds) + 0 ≡ w - length ds = omega arith in ap (worth_to ds w) e ∙ front_none ds w (w - length ds) (omega arith)
-front_some ds w (suc k) h =
-    let p = w - length ds in
-    let e : p + suc k ≡ suc (p + k) = omega arith in
-    let i = front_some ds w k (omega arith) in
-    let n : (p + k) - p ≡ k = omega arith in
-    let d : digit_at ds w (p + k) ≡ get_or ds k 0 - 48 = ap (λ (c : Bool). cond c 0 (get_or ds ((p + k) - p) 0 - 48)) (le-ltb (p + k) p (omega arith)) ∙ ap (λ (j : ℕ). get_or ds j 0 - 48) n in
-    let f : worth (take (k + 1) ds) ≡ worth (take k ds) * 10 + (get_or ds k 0 - 48) = fold_more digit_onto 0 ds k 0 (omega arith) in
-    let g : worth (take (suc k) ds) ≡ worth (take (k + 1) ds) = ap (λ (j : ℕ). worth (take j ds)) (sym (add-one k)) in
-    ap (worth_to ds w) e ∙ ap (λ (x : ℕ). x * 10 + digit_at ds w (p + k)) i ∙ ap (λ (x : ℕ). worth (take k ds) * 10 + x) d ∙ sym f ∙ sym g
+pub significant : (ds : List ℕ) → all_digits ds ≡ true → Significant ds (drop (prefix_len (λ b. eqb b 48) ds) ds)
+significant [] h = record { digits = h; first = λ l. absurd (omega arith); same = refl }
+significant (d ∷ ds) h =
+    let n = and_right (is_digit d) (all_digits ds) h in
+    let l = digit_low d (and_left (is_digit d) (all_digits ds) h) in
+    by_test (eqb d 48)
+    (λ e.
+    let i = significant ds n in
+    let z : prefix_len (λ b. eqb b 48) (d ∷ ds) ≡ suc (prefix_len (λ b. eqb b 48) ds) = ap (λ (c : Bool). cond c (1 + prefix_len (λ b. eqb b 48) ds) 0) e ∙ one-add _ in
+    let w : 0 ≡ digit_onto 0 d = let k = eqb-true d 48 e in omega arith in
+    subst (λ (k : ℕ). Significant (d ∷ ds) (drop k (d ∷ ds))) (sym z) record { digits = i.digits; first = i.first; same = i.same ∙ ap (λ (k : ℕ). fold digit_onto k ds) w })
+    (λ e.
+    let z : prefix_len (λ b. eqb b 48) (d ∷ ds) ≡ 0 = ap (λ (c : Bool). cond c (1 + prefix_len (λ b. eqb b 48) ds) 0) e in
+    let k : d ≢ 48 = eqb-false d 48 e in
+    subst (λ (k : ℕ). Significant (d ∷ ds) (drop k (d ∷ ds))) (sym z) record { digits = h; first = λ j. omega arith; same = refl })
 
-pub front_all : (ds : List ℕ) (w : ℕ) → length ds ≤ w → worth_to ds w w ≡ worth ds
-front_all ds w h =
-    let e : w ≡ (w - length ds) + length ds = omega arith in
-    ap (worth_to ds w) e ∙ front_some ds w (length ds) (omega arith) ∙ ap worth (take_all (length ds) ds (omega arith))
+longer : (s t : List ℕ) → length s < length t → all_digits s ≡ true → 48 < get_or t 0 0 → worth s < worth t
+longer s [] h d f = absurd (omega arith)
+longer s (y ∷ t) h d f = below s t 0 (digit_onto 0 y) (omega arith) (omega arith) d
 
-same_test : (a b c d : ℕ) → (a < b → c < d) → (c < d → a < b) → ltb a b ≡ ltb c d
-same_test a b c d f g = by_test (ltb a b)
-    (λ e. e ∙ sym (lt-ltb c d (f (ltb-true a b e))))
-    (λ e. e ∙ sym (by_test (ltb c d) (λ k. absurd (let x = g (ltb-true c d k) in let y = ltb-false a b e in omega arith)) (λ k. k)))
+module _ {a b s t : List ℕ} (p : Significant a s) (q : Significant b t) where
+  compared : partial_ordering_then (Some (nat_cmp (length s) (length t))) (order s t) ≡ Some (nat_cmp (worth s) (worth t))
+  compared =
+      let step = λ (o : Ordering) (h : nat_cmp (length s) (length t) ≡ o) (k : o ≡ nat_cmp (worth s) (worth t)) (f : partial_ordering_then (Some o) (order s t) ≡ Some o). ap (λ (c : Ordering). partial_ordering_then (Some c) (order s t)) h ∙ f ∙ ap (λ (c : Ordering). Some c) k in
+      by_ranked _ _ _ (nat_cmp (length s) (length t)) (ranked (length s) (length t) (nat_cmp (length s) (length t)) refl)
+      (λ o h. step Less o (nat_cmp_is _ _ Less (longer s t h p.digits (q.first (omega arith)))) refl)
+      (λ o h. ap (λ (c : Ordering). partial_ordering_then (Some c) (order s t)) o ∙ as_long s t 0 h p.digits q.digits)
+      (λ o h. step Greater o (nat_cmp_is _ _ Greater (longer t s h q.digits (p.first (omega arith)))) refl)
 
--- how a numeral compares with another, as far as it was read
-pub record Order (a b : List ℕ) (w i : ℕ) (above below : Bool) : Type 0 where
-  pub over : above ≡ ltb (worth_to b w i) (worth_to a w i)
-  pub under : below ≡ ltb (worth_to a w i) (worth_to b w i)
+  above : (m n : ℕ) → is_some_and is_gt (Some (nat_cmp m n)) ≡ nat_lt n m
+  above m n = by_ranked _ _ _ (nat_cmp m n) (ranked m n (nat_cmp m n) refl)
+      (λ o h. ap is_gt o ∙ sym (le-ltb n m (omega arith)))
+      (λ o h. ap is_gt o ∙ sym (le-ltb n m (omega arith)))
+      (λ o h. ap is_gt o ∙ sym (lt-ltb n m h))
 
--- where they differ already, the next digits do not count
-pub order_stays : (a b : List ℕ) (w i : ℕ) (above below : Bool) → all_digits a ≡ true → all_digits b ≡ true → (above ≡ false → below ≡ false → ⊥) → Order a b w i above below → Order a b w (suc i) above below
-order_stays a b w i above below h k ne o =
-    let d = digit_small a w i h in
-    let e = digit_small b w i k in
-    let x = worth_to a w i in
-    let y = worth_to b w i in
-    let apart : (x ≡ y → ⊥) = λ q. ne (o.over ∙ le-ltb y x (omega arith)) (o.under ∙ le-ltb x y (omega arith)) in
-    record {
-      over = o.over ∙ same_test y x (y * 10 + digit_at b w i) (x * 10 + digit_at a w i) (λ l. omega arith) (λ l. higher y x (digit_at b w i) (digit_at a w i) e d l (λ q. apart (sym q)));
-      under = o.under ∙ same_test x y (x * 10 + digit_at a w i) (y * 10 + digit_at b w i) (λ l. omega arith) (λ l. higher x y (digit_at a w i) (digit_at b w i) d e l apart);
-    }
-  where
-    higher : (x y d e : ℕ) → d ≤ 9 → e ≤ 9 → x * 10 + d < y * 10 + e → (x ≡ y → ⊥) → x < y
-    higher x y d e h k l ne = by_test (ltb x y) (λ t. ltb-true x y t) (λ t. let g = ltb-false x y t in absurd (ne (omega arith)))
-
--- where they are alike so far, the next digits tell
-pub order_turns : (a b : List ℕ) (w i : ℕ) (above below : Bool) → above ≡ false → below ≡ false → Order a b w i above below → Order a b w (suc i) (ltb (digit_at b w i) (digit_at a w i)) (ltb (digit_at a w i) (digit_at b w i))
-order_turns a b w i above below f g o =
-    let x = worth_to a w i in
-    let y = worth_to b w i in
-    let p : x ≤ y = ltb-false y x (sym o.over ∙ f) in
-    let q : y ≤ x = ltb-false x y (sym o.under ∙ g) in
-    record {
-      over = same_test (digit_at b w i) (digit_at a w i) (y * 10 + digit_at b w i) (x * 10 + digit_at a w i) (λ l. omega arith) (λ l. omega arith);
-      under = same_test (digit_at a w i) (digit_at b w i) (x * 10 + digit_at a w i) (y * 10 + digit_at b w i) (λ l. omega arith) (λ l. omega arith);
-    }
-
--- ---- the turns of a comparison
-
-pub next_stays : (a b : List ℕ) (w i : ℕ) (above below above' below' : Bool) → all_digits a ≡ true → all_digits b ≡ true → (above ≡ false → below ≡ false → ⊥) → above' ≡ above → below' ≡ below → Order a b w i above below → Order a b w (i + 1) above' below'
-next_stays a b w i above below above' below' h k ne p q o = rw (add-one, p, q) (order_stays a b w i above below h k ne o)
-
-pub next_turns : (a b : List ℕ) (w i d e : ℕ) (above below above' below' : Bool) → above ≡ false → below ≡ false → d ≡ digit_at a w i → e ≡ digit_at b w i → above' ≡ ltb e d → below' ≡ ltb d e → Order a b w i above below → Order a b w (i + 1) above' below'
-next_turns a b w i d e above below above' below' f g x y p q o = rw (add-one, p, q, x, y) (order_turns a b w i above below f g o)
-
-pub order_all : (a b : List ℕ) (w i : ℕ) (above below : Bool) → length a ≤ w → length b ≤ w → i ≡ w → Order a b w i above below → above ≡ ltb (worth b) (worth a)
-order_all a b w i above below h k e o =
-    let f : worth_to a w i ≡ worth a = ap (worth_to a w) e ∙ front_all a w h in
-    let g : worth_to b w i ≡ worth b = ap (worth_to b w) e ∙ front_all b w k in
-    o.over ∙ ap (λ (x : ℕ). ltb x (worth_to a w i)) g ∙ ap (ltb (worth b)) f
+  -- the longer is more, and of two as long the one that compares as more
+  pub more : is_some_and is_gt (partial_ordering_then (Some (nat_cmp (length s) (length t))) (order s t)) ≡ nat_lt (worth b) (worth a)
+  more = ap (is_some_and is_gt) compared ∙ above (worth s) (worth t) ∙ ap (λ (n : ℕ). nat_lt n (worth s)) q.same ∙ ap (nat_lt (worth b)) p.same

@@ -1,64 +1,42 @@
--- Reading fixed bytes, and runs of bytes of one sort.
-use Rattle.std.proofs.Common.{◌≡◌, ℕ, ◌+◌, ◌<◌, ◌≤◌, Bool, true, false, cond, eqb, List, [], ◌∷◌, ◌++◌, length, get_or, take, drop, Some, None, sym, refl, ap, ◌∙◌, append_assoc, arith, eq-eqb, ne_eqb}
+-- Fixed bytes at a place of a line.
+use Rattle.std.proofs.Common.{◌≡◌, ℕ, ◌+◌, ◌<◌, Bool, true, false, cond, eqb, List, [], ◌∷◌, ◌++◌, length, Some, Ok, Err, Result, MatchResult, sym, refl, ap, ◌∙◌, arith, length-drop, eq-eqb, ne_eqb, eqb-true}
+use borrow.Author.Tests.{clash}
 use Rattle.std.specs.List.{between}
-use Rattle.std.proofs.lemmas.List.{drop_more, drop_all, take_more, take_all}
-use Rattle.lines.specs.Pieces.{Piece, word, stuck, onto, after, complete, stop, Reads, Stops}
-use Rattle.lines.proofs.Bytes.{alike, at_end_lem, goes_at, halts_at, ends_at, part_is, part_then}
+use Rattle.std.proofs.lemmas.List.Sums.{common_prefix_len-le}
+use Rattle.coverage.proofs.Bools.{by_test}
+use Rattle.cursor.specs.declared.cursor.Cursor.{Cursor}
+use Rattle.cursor.specs.Rest.{rest}
+use Rattle.cursor.specs.Words.{stand}
+use Rattle.lines.specs.Pieces.{Piece, word, stuck, onto, stop, Read}
+use Rattle.lines.proofs.Bytes.{alike, at_end_lem, goes, halts}
+use Rattle.lines.proofs.Moves.{past_word}
 
--- i bytes of a word were read, from at to here
-pub record Lit (line w : List ℕ) (at here i : ℕ) : Type 0 where
-  pub place : here ≡ at + i
-  pub within : here ≤ length line
-  pub so_far : drop at line ≡ take i w ++ drop here line
-  pub turns : (s : List Piece) → stop at (word w ∷ s) (drop at line) ≡ stop here (word (drop i w) ∷ s) (drop here line)
+-- they stand there, and the line goes on after them
+pub word_goes : (w bs : List ℕ) (p : ℕ) (s : List Piece) → stop p (word w ∷ s) (w ++ bs) ≡ stop (p + length w) s bs
+word_goes [] bs p s = alike p (word [] ∷ s) s bs refl (λ b r e. refl) ∙ ap (λ (n : ℕ). stop n s bs) (omega arith)
+word_goes (c ∷ w) bs p s =
+    goes p (word (c ∷ w) ∷ s) (word w ∷ s) c (w ++ bs) (ap (λ (t : Bool). cond t (onto (word w ∷ s)) stuck) (eq-eqb c c refl)) ∙ word_goes w bs (p + 1) s ∙ ap (λ (n : ℕ). stop n s bs) (omega arith)
 
-pub lit_none : (line w : List ℕ) (at : ℕ) → at ≤ length line → Lit line w at at 0
-lit_none line w at h = record { place = omega arith; within = h; so_far = refl; turns = λ s. refl }
+-- other bytes stand there, and the line stops at the first of them
+word_halts : (w bs : List ℕ) (p : ℕ) (s : List Piece) → stand w bs < length w → stop p (word w ∷ s) bs ≡ Some (p + stand w bs)
+word_halts [] bs p s h = absurd (omega arith)
+word_halts (c ∷ w) [] p s h = at_end_lem p (word (c ∷ w) ∷ s) ∙ ap (λ (n : ℕ). Some n) (omega arith)
+word_halts (c ∷ w) (b ∷ bs) p s h = by_test (eqb c b)
+    (λ e.
+    let n : stand (c ∷ w) (b ∷ bs) ≡ 1 + stand w bs = ap (λ (t : Bool). cond t (1 + stand w bs) 0) e in
+    let k : eqb b c ≡ true = eq-eqb b c (sym (eqb-true c b e)) in
+    goes p (word (c ∷ w) ∷ s) (word w ∷ s) b bs (ap (λ (t : Bool). cond t (onto (word w ∷ s)) stuck) k) ∙ word_halts w bs (p + 1) s (omega arith) ∙ ap (λ (n : ℕ). Some n) (omega arith))
+    (λ e.
+    let n : stand (c ∷ w) (b ∷ bs) ≡ 0 = ap (λ (t : Bool). cond t (1 + stand w bs) 0) e in
+    let k : eqb b c ≡ false = ne_eqb b c (λ q. clash (sym e ∙ eq-eqb c b (sym q))) in
+    halts p (word (c ∷ w) ∷ s) b bs (ap (λ (t : Bool). cond t (onto (word w ∷ s)) stuck) k) ∙ ap (λ (n : ℕ). Some n) (omega arith))
 
-word_next : (w : List ℕ) (i b : ℕ) (s : List Piece) → i < length w → b ≡ get_or w i 0 → after (word (drop i w) ∷ s) b ≡ onto (word (drop (i + 1) w) ∷ s)
-word_next w i b s h e =
-    let y : eqb b (get_or w i 0) ≡ true = eq-eqb _ _ e in
-    ap (λ (v : List ℕ). after (word v ∷ s) b) (drop_more w i 0 h) ∙ ap (λ (c : Bool). cond c (onto (word (drop (i + 1) w) ∷ s)) stuck) y
-
-word_other : (w : List ℕ) (i b : ℕ) (s : List Piece) → i < length w → (b ≡ get_or w i 0 → ⊥) → after (word (drop i w) ∷ s) b ≡ stuck
-word_other w i b s h e =
-    let y : eqb b (get_or w i 0) ≡ false = ne_eqb _ _ e in
-    ap (λ (v : List ℕ). after (word v ∷ s) b) (drop_more w i 0 h) ∙ ap (λ (c : Bool). cond c (onto (word (drop (i + 1) w) ∷ s)) stuck) y
-
-pub lit_more : (line w : List ℕ) (at here i : ℕ) → here < length line → i < length w → get_or line here 0 ≡ get_or w i 0 → Lit line w at here i → Lit line w at (here + 1) (i + 1)
-lit_more line w at here i h k e l =
-    let a = l.place in
-    let q : take i w ++ drop here line ≡ take (i + 1) w ++ drop (here + 1) line =
-    ap (λ (r : List ℕ). take i w ++ r) (drop_more line here 0 h ∙ ap (λ (b : ℕ). b ∷ drop (here + 1) line) e) ∙ sym (append_assoc (take i w) (get_or w i 0 ∷ []) (drop (here + 1) line)) ∙ ap (λ (v : List ℕ). v ++ drop (here + 1) line) (sym (take_more w i 0 k)) in
-    record { place = omega arith; within = omega arith; so_far = l.so_far ∙ q; turns = λ s. l.turns s ∙ goes_at line here _ _ h (word_next w i _ s k e) }
-
-pub lit_ends : (line w : List ℕ) (at here i : ℕ) → length line ≤ here → i < length w → Lit line w at here i → Stops (word w ∷ []) line at here
-lit_ends line w at here i h k l =
-    let a = l.place in
-    record { forward = omega arith; within = l.within; turns = λ s. l.turns s ∙ ends_at line here _ h (ap (λ (v : List ℕ). complete (word v ∷ s)) (drop_more w i 0 k)) }
-
-pub lit_halts : (line w : List ℕ) (at here i : ℕ) → here < length line → i < length w → (get_or line here 0 ≡ get_or w i 0 → ⊥) → Lit line w at here i → Stops (word w ∷ []) line at here
-lit_halts line w at here i h k e l =
-    let a = l.place in
-    record { forward = omega arith; within = l.within; turns = λ s. l.turns s ∙ halts_at line here _ h (word_other w i _ s k e) }
-
-pub lit_all : (line w : List ℕ) (at here i : ℕ) → length w ≤ i → i ≤ length w → Lit line w at here i → Reads (word w ∷ []) line at here × (between at here line ≡ w)
-lit_all line w at here i h k l =
-    let a = l.place in
-    let e : drop at line ≡ w ++ drop here line = l.so_far ∙ ap (λ (v : List ℕ). v ++ drop here line) (take_all i w h) in
-    let d = drop_all i w h in (
-      record { forward = omega arith; within = l.within; turns = λ s. l.turns s ∙ ap (λ (v : List ℕ). stop here (word v ∷ s) (drop here line)) d ∙ alike here (word [] ∷ s) s (drop here line) refl (λ b r q. refl) },
-      part_is line w at here (omega arith) e,
-    )
-
--- ---- the end of the line
-
-pub close_early : (line : List ℕ) (at n : ℕ) → n < length line → Reads (word (41 ∷ []) ∷ []) line at n → stop at (word (41 ∷ []) ∷ []) (drop at line) ≡ Some n
-close_early line at n h r = r.turns [] ∙ halts_at line n [] h refl
-
-pub close_last : (line : List ℕ) (at n : ℕ) → length line ≤ n → Reads (word (41 ∷ []) ∷ []) line at n → between at n line ≡ 41 ∷ [] → (stop at (word (41 ∷ []) ∷ []) (drop at line) ≡ None) × (drop at line ≡ 41 ∷ [])
-close_last line at n h r e =
-    let d = drop_all n line h in (
-      r.turns [] ∙ ap (stop n []) d ∙ at_end_lem n [],
-      part_then line at n r.forward ∙ ap (λ (w : List ℕ). w ++ drop n line) e ∙ ap (λ (w : List ℕ). 41 ∷ w) d,
-    )
+pub literal_read : (w : List ℕ) (from to : Cursor) (r : Result (Unit {0}) ℕ) → to.text.now ≡ from.text.now → MatchResult r (λ u. (to.at ≡ from.at + length w) × (between from.at to.at from.text.now ≡ w)) (λ p. (to.at ≡ from.at) × (p ≡ from.at + stand w (rest from)) × (p < from.at + length w)) → Read (word w ∷ []) (λ v u. v ≡ w) from to r
+literal_read w from to (Ok u) same m =
+    let e = past_word from to same w m.0 m.1 in
+    (w, record { text = same; place = m.0; bytes = e; turns = λ s. ap (stop from.at (word w ∷ s)) e ∙ word_goes w (rest to) from.at s ∙ ap (λ (n : ℕ). stop n s (rest to)) (sym m.0) }, refl)
+literal_read w from to (Err p) same m =
+    let l = common_prefix_len-le eqb w (rest from) in
+    let d = length-drop from.at from.text.now in
+    let i = from.within in
+    record { forward = omega arith; within = omega arith; turns = λ s. word_halts w (rest from) from.at s (omega arith) ∙ ap (λ (n : ℕ). Some n) (sym m.1) }

@@ -1,98 +1,105 @@
 -- Reading a number, and numbers with a blank between them.
-use Rattle.std.proofs.Common.{◌≡◌, ℕ, suc, ◌+◌, ◌-◌, ◌<◌, ◌≤◌, Bool, true, false, cond, ◌&&◌, eqb, List, [], ◌∷◌, ◌++◌, length, get_or, take, drop, Ok, Err, Result, sym, refl, ap, ◌∙◌, append_assoc, arith, ne_eqb}
+use Rattle.std.proofs.Common.{◌≡◌, ℕ, ◌+◌, ◌≤◌, Bool, true, false, cond, ◌&&◌, List, [], ◌∷◌, ◌++◌, length, sym, refl, ap, ◌∙◌, append_assoc, arith, length-append}
 use Rattle.std.specs.List.{between}
-use Rattle.std.proofs.lemmas.List.{drop_more, append_cancel_right}
+use Rattle.cursor.specs.declared.cursor.Cursor.{Cursor}
+use Rattle.cursor.specs.Rest.{rest}
 use Rattle.lines.specs.Numerals.{is_digit, is_count, is_number, words_of, all_numbers}
-use Rattle.lines.specs.Pieces.{Piece, digits, more, number, others, stuck, onto, after, stop, Reads, Stops, Read}
-use Rattle.lines.proofs.Bytes.{alike, at_end_lem, goes_at, part_then, inside}
-use Rattle.lines.proofs.Words.{count_number, minus_number, number_word, words_append, numbers_append}
+use Rattle.lines.specs.Pieces.{Piece, digits, more, number, others, stuck, onto, after, stop, Reads, Stops, IsPart}
+use Rattle.lines.proofs.Bytes.{alike, goes}
+use Rattle.lines.proofs.Moves.{Eaten, eaten, kept, other, word_past}
+use Rattle.lines.proofs.Words.{count_number, number_word, words_append, numbers_append}
 
--- ---- parts of a line
+-- bytes that were read, of which f holds
+abbrev pub Found : List Piece → (List ℕ → Bool) → Cursor → Cursor → Type 0
+Found x f from to = (w : List ℕ) × Reads x w from to × (f w ≡ true)
 
-pub part_first : (line : List ℕ) (i j : ℕ) → i < j → i < length line → between i j line ≡ get_or line i 0 ∷ between (i + 1) j line
-part_first line i j h k =
-    let n : j - i ≡ suc (j - (i + 1)) = omega arith in
-    ap (take (j - i)) (drop_more line i 0 k) ∙ ap (λ (m : ℕ). take m (get_or line i 0 ∷ drop (i + 1) line)) n
+-- they are what stands between
+pub found : {x : List Piece} {f : List ℕ → Bool} (from to : Cursor) → Found x f from to → (w : List ℕ) × Reads x w from to × IsPart f w (between from.at to.at to.text.now)
+found from to (w, r, h) = (w, r, (h, word_past from to r.text w r.place r.bytes))
 
-pub part_join : (line : List ℕ) (i j k : ℕ) → i ≤ j → j ≤ k → between i k line ≡ between i j line ++ between j k line
-part_join line i j k h l =
-    append_cancel_right (between i k line) (between i j line ++ between j k line) (drop k line)
-    (sym (part_then line i k (omega arith)) ∙ part_then line i j h ∙ ap (λ (r : List ℕ). between i j line ++ r) (part_then line j k l) ∙ sym (append_assoc (between i j line) (between j k line) (drop k line)))
+-- ---- a number: digits, after a minus if it stands there
 
--- ---- a number
+module _ (from to : Cursor) (same : to.text.now ≡ from.text.now) where
+  signed : (b : Bool) → Eaten from to same 45 b → (s : List Piece) → stop from.at (number ∷ s) (rest from) ≡ stop to.at (digits ∷ s) (rest to)
+  signed true m s = ap (stop from.at (number ∷ s)) (eaten from to same 45 m) ∙ goes from.at (number ∷ s) (digits ∷ s) 45 (rest to) refl ∙ ap (λ (n : ℕ). stop n (digits ∷ s) (rest to)) (sym m.1)
+  signed false m s =
+      alike from.at (number ∷ s) (digits ∷ s) (rest from) refl (λ c r q. ap (λ (t : Bool). cond t (onto (digits ∷ s)) (cond (is_digit c) (onto (more ∷ s)) stuck)) (other from to same 45 m c r q))
+      ∙ ap (stop from.at (digits ∷ s)) (kept from to same 45 m) ∙ ap (λ (n : ℕ). stop n (digits ∷ s) (rest to)) (sym m.1)
 
-pub after_minus : (line : List ℕ) (at : ℕ) (r : Result ℕ ℕ) → at < length line → get_or line at 0 ≡ 45 → Read (digits ∷ []) (λ w. is_count w ≡ true) line (at + 1) r → Read (number ∷ []) (λ w. is_number w ≡ true) line at r
-after_minus line at (Ok n) h e r =
-    let f = r.0.forward in (
-      record { forward = omega arith; within = r.0.within; turns = λ s. goes_at line at (number ∷ s) (digits ∷ s) h (ap (λ (b : ℕ). after (number ∷ s) b) e) ∙ r.0.turns s },
-      ap (λ (w : List ℕ). is_number w) (part_first line at n (omega arith) h) ∙ minus_number (get_or line at 0) (between (at + 1) n line) e r.1,
-    )
-after_minus line at (Err p) h e r =
-    let f = r.forward in
-    record { forward = omega arith; within = r.within; turns = λ s. goes_at line at (number ∷ s) (digits ∷ s) h (ap (λ (b : ℕ). after (number ∷ s) b) e) ∙ r.turns s }
+  past : (b : Bool) → Eaten from to same 45 b → from.at ≤ to.at
+  past true m = omega arith
+  past false m = omega arith
 
--- a byte that does not stand at a place of a line
-other_byte : (line : List ℕ) (at k b : ℕ) (bs : List ℕ) (b' : ℕ) (r : List ℕ) → (at < length line → get_or line at 0 ≡ k → ⊥) → drop at line ≡ b ∷ bs → b ∷ bs ≡ b' ∷ r → eqb b' k ≡ false
-other_byte line at k b bs b' r h q e =
-    let i = inside line at b' r (q ∙ e) in
-    ne_eqb b' k (λ y. h i.0 (i.1 ∙ y))
+  pub number_stops : {p : ℕ} (b : Bool) → Eaten from to same 45 b → Stops (digits ∷ []) to p → Stops (number ∷ []) from p
+  number_stops b m h =
+      let f = h.forward in
+      let k = past b m in
+      let e = ap length same in
+      let l = h.within in
+      record { forward = omega arith; within = omega arith; turns = λ s. signed b m s ∙ h.turns s }
 
--- without a minus a number is a count
-plain : (line : List ℕ) (at : ℕ) (s : List Piece) → (at < length line → get_or line at 0 ≡ 45 → ⊥) → (bs : List ℕ) → drop at line ≡ bs → stop at (number ∷ s) bs ≡ stop at (digits ∷ s) bs
-plain line at s h [] q = at_end_lem at (number ∷ s) ∙ sym (at_end_lem at (digits ∷ s))
-plain line at s h (b ∷ bs) q = alike at (number ∷ s) (digits ∷ s) (b ∷ bs) refl (λ b' r e. ap (λ (c : Bool). cond c (onto (digits ∷ s)) (cond (is_digit b') (onto (more ∷ s)) stuck)) (other_byte line at 45 b bs b' r h q e))
-
-pub without_minus : (line : List ℕ) (at : ℕ) (r : Result ℕ ℕ) → (at < length line → get_or line at 0 ≡ 45 → ⊥) → Read (digits ∷ []) (λ w. is_count w ≡ true) line at r → Read (number ∷ []) (λ w. is_number w ≡ true) line at r
-without_minus line at (Ok n) h r =
-    (record { forward = r.0.forward; within = r.0.within; turns = λ s. plain line at s h (drop at line) refl ∙ r.0.turns s }, count_number (between at n line) r.1)
-without_minus line at (Err p) h r =
-    record { forward = r.forward; within = r.within; turns = λ s. plain line at s h (drop at line) refl ∙ r.turns s }
+  pub number_found : {w : List ℕ} (end : Cursor) (b : Bool) → Eaten from to same 45 b → Reads (digits ∷ []) w to end → is_count w ≡ true → Found (number ∷ []) is_number from end
+  number_found {w} end true m r h =
+      let e = r.place in
+      (45 ∷ w, record { text = r.text ∙ same; place = omega arith; bytes = eaten from to same 45 m ∙ ap (λ (v : List ℕ). 45 ∷ v) r.bytes; turns = λ s. signed true m s ∙ r.turns s }, h)
+  number_found {w} end false m r h =
+      let e = r.place in
+      (w, record { text = r.text ∙ same; place = omega arith; bytes = kept from to same 45 m ∙ r.bytes; turns = λ s. signed false m s ∙ r.turns s }, count_number w h)
 
 -- ---- numbers
 
--- numbers were read from at to here
-pub record Listing (line : List ℕ) (at here : ℕ) : Type 0 where
-  pub forward : at ≤ here
-  pub within : here ≤ length line
-  pub turns : (s : List Piece) → stop at (number ∷ others ∷ s) (drop at line) ≡ stop here (others ∷ s) (drop here line)
-  pub words : all_numbers (words_of (between at here line)) ≡ true
+-- numbers were read, each after a blank but the first
+pub record Listing (from to : Cursor) : Type 0 where
+  pub bytes : List ℕ
+  pub text : to.text.now ≡ from.text.now
+  pub place : to.at ≡ from.at + length bytes
+  pub so_far : rest from ≡ bytes ++ rest to
+  pub turns : (s : List Piece) → stop from.at (number ∷ others ∷ s) (rest from) ≡ stop to.at (others ∷ s) (rest to)
+  pub words : all_numbers (words_of bytes) ≡ true
 
 one_number : (w : List ℕ) → is_number w ≡ true → all_numbers (words_of w) ≡ true
 one_number w h = ap all_numbers (number_word w h) ∙ ap (λ (c : Bool). c && true) h
 
-pub listing_one : (line : List ℕ) (at n : ℕ) → Reads (number ∷ []) line at n → is_number (between at n line) ≡ true → Listing line at n
-listing_one line at n r h = record { forward = r.forward; within = r.within; turns = λ s. r.turns (others ∷ s); words = one_number (between at n line) h }
+pub listing_one : {w : List ℕ} (from to : Cursor) → Reads (number ∷ []) w from to → is_number w ≡ true → Listing from to
+listing_one {w} from to r h = record { bytes = w; text = r.text; place = r.place; so_far = r.bytes; turns = λ s. r.turns (others ∷ s); words = one_number w h }
 
-blank_onto : (line : List ℕ) (here : ℕ) (s : List Piece) → here < length line → get_or line here 0 ≡ 32 → stop here (others ∷ s) (drop here line) ≡ stop (here + 1) (number ∷ others ∷ s) (drop (here + 1) line)
-blank_onto line here s h e = goes_at line here (others ∷ s) (number ∷ others ∷ s) h (ap (λ (b : ℕ). cond (eqb b 32) (onto (number ∷ others ∷ s)) (after s b)) e)
+module _ (here next : Cursor) (same : next.text.now ≡ here.text.now) where
+  blank_onto : Eaten here next same 32 true → (s : List Piece) → stop here.at (others ∷ s) (rest here) ≡ stop next.at (number ∷ others ∷ s) (rest next)
+  blank_onto m s = ap (stop here.at (others ∷ s)) (eaten here next same 32 m) ∙ goes here.at (others ∷ s) (number ∷ others ∷ s) 32 (rest next) refl ∙ ap (λ (n : ℕ). stop n (number ∷ others ∷ s) (rest next)) (sym m.1)
 
-pub listing_more : (line : List ℕ) (at here n : ℕ) → Listing line at here → here < length line → get_or line here 0 ≡ 32 → Reads (number ∷ []) line (here + 1) n → is_number (between (here + 1) n line) ≡ true → Listing line at n
-listing_more line at here n l h e r k =
-    let f = l.forward in
-    let g = r.forward in
-    let p : between at n line ≡ between at here line ++ (32 ∷ between (here + 1) n line) =
-    part_join line at here n (omega arith) (omega arith) ∙ ap (λ (v : List ℕ). between at here line ++ v) (part_first line here n (omega arith) h ∙ ap (λ (b : ℕ). b ∷ between (here + 1) n line) e) in
-    record {
-      forward = omega arith;
-      within = r.within;
-      turns = λ s. l.turns s ∙ blank_onto line here s h e ∙ r.turns (others ∷ s);
-      words = ap (λ (v : List ℕ). all_numbers (words_of v)) p ∙ ap all_numbers (words_append [] (between at here line) (between (here + 1) n line)) ∙ numbers_append (words_of (between at here line)) (words_of (between (here + 1) n line)) l.words (one_number (between (here + 1) n line) k);
-    }
+  pub listing_more : {w : List ℕ} (from to : Cursor) → Listing from here → Eaten here next same 32 true → Reads (number ∷ []) w next to → is_number w ≡ true → Listing from to
+  listing_more {w} from to l m r h =
+      let p = l.place in
+      let q = r.place in
+      let n = length-append l.bytes (32 ∷ w) in
+      record {
+        bytes = l.bytes ++ (32 ∷ w);
+        text = r.text ∙ same ∙ l.text;
+        place = omega arith;
+        so_far = l.so_far ∙ ap (λ (v : List ℕ). l.bytes ++ v) (eaten here next same 32 m ∙ ap (λ (v : List ℕ). 32 ∷ v) r.bytes) ∙ sym (append_assoc l.bytes (32 ∷ w) (rest to));
+        turns = λ s. l.turns s ∙ blank_onto m s ∙ r.turns (others ∷ s);
+        words = ap all_numbers (words_append [] l.bytes w) ∙ numbers_append (words_of l.bytes) (words_of w) l.words (one_number w h);
+      }
 
-pub listing_halts : (line : List ℕ) (at here p : ℕ) → Listing line at here → here < length line → get_or line here 0 ≡ 32 → Stops (number ∷ []) line (here + 1) p → Stops (number ∷ others ∷ []) line at p
-listing_halts line at here p l h e r =
-    let f = l.forward in
-    let g = r.forward in
-    record { forward = omega arith; within = r.within; turns = λ s. l.turns s ∙ blank_onto line here s h e ∙ r.turns (others ∷ s) }
+  pub listing_stops : {p : ℕ} (from : Cursor) → Listing from here → Eaten here next same 32 true → Stops (number ∷ []) next p → Stops (number ∷ others ∷ []) from p
+  listing_stops from l m h =
+      let f = h.forward in
+      let p = l.place in
+      let e = ap length (same ∙ l.text) in
+      let k = h.within in
+      record { forward = omega arith; within = omega arith; turns = λ s. l.turns s ∙ blank_onto m s ∙ h.turns (others ∷ s) }
 
-pub listing_none : (line : List ℕ) (at p : ℕ) → Stops (number ∷ []) line at p → Stops (number ∷ others ∷ []) line at p
-listing_none line at p r = record { forward = r.forward; within = r.within; turns = λ s. r.turns (others ∷ s) }
-
--- without a blank there are no further numbers
-no_others : (line : List ℕ) (here : ℕ) (s : List Piece) → (here < length line → get_or line here 0 ≡ 32 → ⊥) → (bs : List ℕ) → drop here line ≡ bs → stop here (others ∷ s) bs ≡ stop here s bs
-no_others line here s h [] q = at_end_lem here (others ∷ s) ∙ sym (at_end_lem here s)
-no_others line here s h (b ∷ bs) q = alike here (others ∷ s) s (b ∷ bs) refl (λ b' r e. ap (λ (c : Bool). cond c (onto (number ∷ others ∷ s)) (after s b')) (other_byte line here 32 b bs b' r h q e))
-
-pub listing_all : (line : List ℕ) (at here : ℕ) → (here < length line → get_or line here 0 ≡ 32 → ⊥) → Listing line at here → Reads (number ∷ others ∷ []) line at here × (all_numbers (words_of (between at here line)) ≡ true)
-listing_all line at here h l =
-    (record { forward = l.forward; within = l.within; turns = λ s. l.turns s ∙ no_others line here s h (drop here line) refl }, l.words)
+  -- without a blank there are no further numbers
+  pub listing_all : (from : Cursor) → Listing from here → Eaten here next same 32 false → Found (number ∷ others ∷ []) (λ w. all_numbers (words_of w)) from next
+  listing_all from l m =
+      let p = l.place in
+      let e = kept here next same 32 m in (
+        l.bytes,
+        record {
+          text = same ∙ l.text;
+          place = omega arith;
+          bytes = l.so_far ∙ ap (λ (v : List ℕ). l.bytes ++ v) e;
+          turns = λ s. l.turns s ∙ alike here.at (others ∷ s) s (rest here) refl (λ c r q. ap (λ (t : Bool). cond t (onto (number ∷ others ∷ s)) (after s c)) (other here next same 32 m c r q)) ∙ ap (stop here.at s) e ∙ ap (λ (n : ℕ). stop n s (rest next)) (sym m.1);
+        },
+        l.words,
+      )

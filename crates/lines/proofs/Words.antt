@@ -1,6 +1,7 @@
 -- The words of a text, and numerals among them.
 use Rattle.std.proofs.Common.{◌≡◌, ℕ, ◌≤◌, Bool, true, false, cond, eqb, leb, List, [], ◌∷◌, ◌++◌, sym, refl, ap, ◌∙◌, append_assoc, arith, ne_eqb, eqb-true, leb-true}
 use borrow.Author.Tests.{clash}
+use Rattle.std.proofs.lemmas.List.{append-nil}
 use Rattle.coverage.proofs.Bools.{by_test, and_left, and_right, and_both}
 use Rattle.lines.specs.Says.{AreCells}
 use Rattle.lines.specs.Numerals.{is_digit, all_digits, is_count, is_number, words_after, words_of, all_numbers}
@@ -24,16 +25,9 @@ count_number (b ∷ w) h =
     let e = digit_apart b 45 (omega arith) (and_left (is_digit b) (all_digits w) h) in
     ap (λ (c : Bool). cond c (is_count w) (is_count (b ∷ w))) e ∙ h
 
-pub minus_number : (b : ℕ) (w : List ℕ) → b ≡ 45 → is_count w ≡ true → is_number (b ∷ w) ≡ true
-minus_number b w e h = ap (λ (x : ℕ). cond (eqb x 45) (is_count w) (is_count (x ∷ w))) e ∙ h
-
 -- digits have no blank among them
 digits_word : (w bs : List ℕ) → all_digits bs ≡ true → words_after w bs ≡ (w ++ bs) ∷ []
-digits_word w [] h = ap (λ (v : List ℕ). v ∷ []) (sym (append_nil w))
-  where
-    append_nil : (w : List ℕ) → w ++ [] ≡ w
-    append_nil [] = refl
-    append_nil (b ∷ w) = ap (λ (v : List ℕ). b ∷ v) (append_nil w)
+digits_word w [] h = ap (λ (v : List ℕ). v ∷ []) (sym (append-nil w))
 digits_word w (b ∷ bs) h =
     let e = digit_apart b 32 (omega arith) (and_left (is_digit b) (all_digits bs) h) in
     ap (λ (c : Bool). cond c (w ∷ words_after [] bs) (words_after (w ++ (b ∷ [])) bs)) e ∙ digits_word (w ++ (b ∷ [])) bs (and_right (is_digit b) (all_digits bs) h) ∙ ap (λ (v : List ℕ). v ∷ []) (append_assoc w (b ∷ []) bs)

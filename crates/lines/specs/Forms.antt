@@ -66,6 +66,12 @@ abbrev pub stop_over : List (List Piece) → List ℕ → Option ℕ
 stop_over [] bs = Some 0
 stop_over (f ∷ fs) bs = farther (stop 0 f bs) (stop_over fs bs)
 
+-- of two readings, the one that found something; where neither did, the place where the farther stopped
+abbrev pub either : {A : Type 0} → Result A ℕ → Result A ℕ → Result A ℕ
+either (Ok c) r = Ok c
+either (Err p) (Ok c) = Ok c
+either (Err p) (Err q) = Err (max p q)
+
 -- the place that a reading answers
 abbrev pub placed : {A : Type 0} → Result A ℕ → Option ℕ
 placed (Ok c) = None

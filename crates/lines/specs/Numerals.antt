@@ -1,5 +1,5 @@
 -- Numerals of any length: what they are, what they are worth, and how far that can be told.
-use Rattle.std.specs.Prelude.{ℕ, ◌+◌, ◌-◌, ◌*◌, min, Bool, true, false, cond, not, ◌&&◌, List, [], ◌∷◌, ◌++◌, length, ℤ, pos, negsuc, neg_ℤ, fold, ◌==◌, int_le, nat_le, nat_lt, slice_index}
+use Rattle.std.specs.Prelude.{ℕ, ◌+◌, ◌-◌, ◌*◌, min, Bool, true, false, cond, not, ◌&&◌, List, [], ◌∷◌, ◌++◌, ℤ, pos, negsuc, neg_ℤ, fold, ◌==◌, int_le, nat_le}
 use Rattle.coverage.specs.Axes.{same_z}
 use Rattle.coverage.specs.declared.range.Range.{Range}
 
@@ -29,10 +29,6 @@ digit_onto n b = n * 10 + (b - 48)
 
 abbrev pub worth : List ℕ → ℕ
 worth ds = fold digit_onto 0 ds
-
--- a digit of a numeral that is set to a width by zeros in front
-abbrev pub digit_at : List ℕ → ℕ → ℕ → ℕ
-digit_at ds width i = cond (nat_lt i (width - length ds)) 0 (slice_index ds (i - (width - length ds)) - 48)
 
 -- the digits after a minus, where there is one
 abbrev pub digits_of : List ℕ → List ℕ

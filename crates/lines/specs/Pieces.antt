@@ -1,6 +1,7 @@
 -- The pieces that forms are made of, and where a line stops being made of them.
-use Rattle.std.specs.Prelude.{◌≡◌, ℕ, suc, ◌≤◌, Bool, true, false, cond, not, ◌&&◌, List, [], ◌∷◌, ◌++◌, length, drop, Some, None, Ok, Err, Option, Result, ◌==◌}
-use Rattle.std.specs.List.{between}
+use Rattle.std.specs.Prelude.{◌≡◌, ℕ, suc, ◌+◌, ◌≤◌, Bool, true, false, cond, not, ◌&&◌, List, [], ◌∷◌, ◌++◌, length, Some, None, Ok, Err, Option, Result, ◌==◌}
+use Rattle.cursor.specs.declared.cursor.Cursor.{Cursor}
+use Rattle.cursor.specs.Rest.{rest}
 use Rattle.lines.specs.Numerals.{is_digit}
 
 -- neither a blank nor a bracket
@@ -68,24 +69,31 @@ unfoldable pub stop : ℕ → List Piece → List ℕ → Option ℕ
 stop p s [] = cond (complete s) None (Some p)
 stop p s (b ∷ bs) = follow (λ s'. stop (suc p) s' bs) p (after s b)
 
--- ---- what reading a piece answers: where it ends, or the place where the line stops
+-- ---- what reading pieces from a place of a line on answers
 
-pub record Reads (x : List Piece) (bs : List ℕ) (at n : ℕ) : Type 0 where
-  pub forward : at ≤ n
-  pub within : n ≤ length bs
-  pub turns : (s : List Piece) → stop at (x ++ s) (drop at bs) ≡ stop n s (drop n bs)
+-- the bytes w were read, and are the pieces: from there on the line is made of further pieces just where it was of these and those
+pub record Reads (x : List Piece) (w : List ℕ) (from to : Cursor) : Type 0 where
+  pub text : to.text.now ≡ from.text.now
+  pub place : to.at ≡ from.at + length w
+  pub bytes : rest from ≡ w ++ rest to
+  pub turns : (s : List Piece) → stop from.at (x ++ s) (rest from) ≡ stop to.at s (rest to)
 
-pub record Stops (x : List Piece) (bs : List ℕ) (at p : ℕ) : Type 0 where
-  pub forward : at ≤ p
-  pub within : p ≤ length bs
-  pub turns : (s : List Piece) → stop at (x ++ s) (drop at bs) ≡ Some p
+-- the line stops being made of the pieces at a place, whatever comes after them
+pub record Stops (x : List Piece) (from : Cursor) (p : ℕ) : Type 0 where
+  pub forward : from.at ≤ p
+  pub within : p ≤ length from.text.now
+  pub turns : (s : List Piece) → stop from.at (x ++ s) (rest from) ≡ Some p
 
--- the bytes that were read are as they should be
-abbrev pub Read : List Piece → (List ℕ → Type 0) → List ℕ → ℕ → Result ℕ ℕ → Type 0
-Read x P bs at (Ok n) = Reads x bs at n × P (between at n bs)
-Read x P bs at (Err p) = Stops x bs at p
+-- bytes were read that say what is answered, or the line stops
+abbrev pub Read : {A : Type 0} → List Piece → (List ℕ → A → Type 0) → Cursor → Cursor → Result A ℕ → Type 0
+Read x P from to (Ok a) = (w : List ℕ) × Reads x w from to × P w a
+Read x P from to (Err p) = Stops x from p
 
--- the line ends with a closing bracket here
-abbrev pub Closes : List ℕ → ℕ → Result (Unit {0}) ℕ → Type 0
-Closes bs at (Ok u) = (stop at (word (41 ∷ []) ∷ []) (drop at bs) ≡ None) × (drop at bs ≡ 41 ∷ [])
-Closes bs at (Err p) = stop at (word (41 ∷ []) ∷ []) (drop at bs) ≡ Some p
+-- the same of pieces with which the line ends
+abbrev pub Ends : {A : Type 0} → List Piece → (List ℕ → A → Type 0) → Cursor → Result A ℕ → Type 0
+Ends x P from (Ok a) = (stop from.at x (rest from) ≡ None) × P (rest from) a
+Ends x P from (Err p) = stop from.at x (rest from) ≡ Some p
+
+-- the bytes are as f says, and are answered
+abbrev pub IsPart : (List ℕ → Bool) → List ℕ → List ℕ → Type 0
+IsPart f w a = (f w ≡ true) × (a ≡ w)

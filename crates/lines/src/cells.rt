@@ -8,18 +8,8 @@ use std::alloc::{AllocError, Global};
 pub fn read_cells(heap: Global, text: &[u8]) -> Result<Vec<i32>, AllocError>
     ensures { IfOk result (λ v. v.items ≡ cells_of text.now) }
 {
-    let mut cells = Vec::new(heap);
-    let end = text.len();
-    if end == 0 {
-        return Ok(cells);
+    if text.is_empty() {
+        return Ok(Vec::new(heap));
     }
-    let mut from = 0;
-    for at in 0..end {
-        if text[at] == b' ' {
-            cells.push(cell_of(&text[from..at]))?;
-            from = at + 1;
-        }
-    }
-    cells.push(cell_of(&text[from..end]))?;
-    Ok(cells)
+    text.split(|b| *b == b' ').map(cell_of).collect(heap)
 }

@@ -4,6 +4,7 @@
 pub mod cells;
 pub mod command;
 pub mod forms;
+mod grids;
 pub mod numeral;
 pub mod pieces;
 

@@ -1,99 +1,91 @@
-// The pieces of a form. Each answers where its piece ends, or the place where the line stops being one.
-ghost use Rattle.std.specs.Prelude.{◌≡◌, ◌+◌, ◌≤◌, true, [], ◌∷◌, length, drop};
-ghost use Rattle.lines.specs.Numerals.{all_numbers, is_count, is_digit, is_number, words_of};
-ghost use Rattle.lines.specs.Pieces.{Closes, Read, digits, is_name_byte, number as a_number, others, word as exactly};
+// The pieces of a form. Each goes past its bytes and answers what they say, or the place where the line stops.
+ghost use Rattle.std.specs.Prelude.{◌≡◌, ◌+◌, true, [], ◌∷◌, ◌++◌, codes};
 ghost use Rattle.std.specs.List.{prefix_len};
+ghost use Rattle.cursor.specs.Rest.{rest};
+ghost use Rattle.lines.specs.Numerals.{all_numbers, is_count, is_number, words_of};
+ghost use Rattle.lines.specs.Pieces.{Ends, IsPart, Read, Reads, digits as some_digits, is_grid_name, is_name_byte, name as a_name, number as a_number, others, text as a_text, word as exactly};
+ghost use Rattle.lines.specs.Says.{Counts, Numbers};
+
+use crate::numeral::{count_of, int_of};
+use cursor::Cursor;
 
 /// The fixed bytes `word`.
-pub fn literal(line: &[u8], at: usize, word: &[u8]) -> Result<usize, usize>
-    requires { at ≤ length line.now }
-    ensures { Read (exactly word.now ∷ []) (λ w. w ≡ word.now) line.now at result }
+pub fn literal(from: &mut Cursor, word: &[u8]) -> Result<(), usize>
+    ensures { Read (exactly word.now ∷ []) (λ w _. w ≡ word.now) from.old from.new result }
 {
-    let mut here = at;
-    for b in word {
-        if here >= line.len() || line[here] != *b {
-            return Err(here);
-        }
-        here += 1;
+    from.literal(word)
+}
+
+/// Any bytes of a name, none too: neither blanks nor brackets.
+pub fn name<'a>(from: &mut Cursor<'a>) -> &'a [u8]
+    ensures read { Reads (a_name ∷ []) result.now from.old from.new }
+    ensures name { is_grid_name result.now ≡ true }
+    ensures longest { from.new.at ≡ from.old.at + prefix_len is_name_byte (rest from.old) }
+{
+    from.run(|b| b != b' ' && b != b'(' && b != b')')
+}
+
+/// Digits, one at least.
+pub fn digits<'a>(from: &mut Cursor<'a>) -> Result<&'a [u8], usize>
+    ensures { Read (some_digits ∷ []) (λ w a. IsPart is_count w a.now) from.old from.new result }
+{
+    let digits = from.run(|b| b.is_ascii_digit());
+    if digits.is_empty() {
+        return Err(from.at);
     }
-    Ok(here)
+    Ok(digits)
 }
 
-/// Whether a byte is a digit.
-pub fn is_digit(b: u8) -> bool
-    ensures { result ≡ is_digit b }
+/// A numeral: at most one minus, then digits, one at least.
+pub fn numeral<'a>(from: &mut Cursor<'a>) -> Result<&'a [u8], usize>
+    ensures { Read (a_number ∷ []) (λ w a. IsPart is_number w a.now) from.old from.new result }
 {
-    b'0' <= b && b <= b'9'
+    let start = from.at;
+    from.eat(b'-');
+    digits(from)?;
+    Ok(&from.text[start..from.at])
 }
 
-/// Whether a byte may stand in the name of a grid line: neither a blank nor a bracket.
-pub fn is_name_byte(b: u8) -> bool
-    ensures { result ≡ is_name_byte b }
+/// Numerals with one blank between them, one at least.
+pub fn numerals<'a>(from: &mut Cursor<'a>) -> Result<&'a [u8], usize>
+    ensures { Read (a_number ∷ others ∷ []) (λ w a. IsPart (λ v. all_numbers (words_of v)) w a.now) from.old from.new result }
 {
-    b != b' ' && b != b'(' && b != b')'
-}
-
-/// The end of a run of digits.
-pub fn digits_end(line: &[u8], at: usize) -> usize
-    requires { at ≤ length line.now }
-    ensures { result ≡ at + prefix_len is_digit (drop at line.now) }
-{
-    let mut here = at;
-    while here < line.len() && is_digit(line[here]) {
-        here += 1;
+    let start = from.at;
+    numeral(from)?;
+    while from.eat(b' ') {
+        numeral(from)?;
     }
-    here
+    Ok(&from.text[start..from.at])
 }
 
-/// Any bytes of a name, none too.
-pub fn name(line: &[u8], at: usize) -> usize
-    requires { at ≤ length line.now }
-    ensures { result ≡ at + prefix_len is_name_byte (drop at line.now) }
+/// A count.
+pub fn count(from: &mut Cursor) -> Result<usize, usize>
+    ensures { Read (some_digits ∷ []) Counts from.old from.new result }
 {
-    let mut here = at;
-    while here < line.len() && is_name_byte(line[here]) {
-        here += 1;
-    }
-    here
+    digits(from).map(count_of)
 }
 
-/// A count: digits, one at least.
-pub fn count(line: &[u8], at: usize) -> Result<usize, usize>
-    requires { at ≤ length line.now }
-    ensures { Read (digits ∷ []) (λ w. is_count w ≡ true) line.now at result }
+/// A number.
+pub fn number(from: &mut Cursor) -> Result<i64, usize>
+    ensures { Read (a_number ∷ []) Numbers from.old from.new result }
 {
-    let end = digits_end(line, at);
-    if end == at { Err(at) } else { Ok(end) }
-}
-
-/// A number: at most one minus, then digits, one at least.
-pub fn number(line: &[u8], at: usize) -> Result<usize, usize>
-    requires { at ≤ length line.now }
-    ensures { Read (a_number ∷ []) (λ w. is_number w ≡ true) line.now at result }
-{
-    if at < line.len() && line[at] == b'-' {
-        return count(line, at + 1);
-    }
-    count(line, at)
-}
-
-/// Numbers with one blank between them, one at least.
-pub fn numbers(line: &[u8], at: usize) -> Result<usize, usize>
-    requires { at ≤ length line.now }
-    ensures { Read (a_number ∷ others ∷ []) (λ w. all_numbers (words_of w) ≡ true) line.now at result }
-{
-    let mut here = number(line, at)?;
-    while here < line.len() && line[here] == b' ' {
-        here = number(line, here + 1)?;
-    }
-    Ok(here)
+    numeral(from).map(int_of)
 }
 
 /// The closing bracket with which the line ends.
-pub fn last(line: &[u8], at: usize) -> Result<(), usize>
-    requires { at ≤ length line.now }
-    ensures { Closes line.now at result }
+pub fn last(from: &mut Cursor) -> Result<(), usize>
+    ensures { Ends (exactly (codes ")") ∷ []) (λ w _. w ≡ codes ")") from.old result }
 {
-    let end = literal(line, at, b")")?;
-    if end < line.len() { Err(end) } else { Ok(()) }
+    literal(from, b")")?;
+    match from.byte() {
+        None => Ok(()),
+        Some(_) => Err(from.at),
+    }
+}
+
+/// The text of a query: it goes to the last byte of the line, which is a closing bracket.
+pub fn query<'a>(from: &Cursor<'a>) -> Result<&'a [u8], usize>
+    ensures { Ends (a_text ∷ []) (λ w q. w ≡ q.now ++ codes ")") from.now result }
+{
+    from.rest().strip_suffix(b")").ok_or(from.text.len())
 }

@@ -17,7 +17,7 @@ use Rattle.language.proofs.Theorems.{query_accepted, values_lie_in_their_span, r
 use Rattle.language.proofs.Shelves.{bind_sound, bind_alike}
 use Rattle.language.proofs.Answered.{answers_hold_their_cells}
 use Rattle.lives.specs.declared.cell.Cell.{Cell}
-use Rattle.lives.specs.Texts.{text_says}
+use Rattle.parser.specs.Says.{text_says}
 use Rattle.lives.specs.Shelves.{describes, looks}
 use Rattle.lives.specs.Unit.{Standing, cells_of, too_short}
 use Rattle.lives.specs.Entries.{entry}

@@ -15,7 +15,7 @@ use Rattle.shelf.specs.declared.fault.ShelfFault.TheVariants.{Outside}
 use Rattle.shelf.specs.Faults.{shelf_refusal}
 use Rattle.shelf.specs.Meaning.{Coverage, after_of, answer_of, cell_at, domain_of, edited, look_answer, looked, put_strip, strip_fault, strip_refused}
 use Rattle.shelf.specs.Laws.{Lawful}
-use Rattle.lives.specs.Texts.{text_says}
+use Rattle.parser.specs.Says.{text_says}
 use Rattle.lives.specs.Unit.{State, SwitchedOn}
 use Rattle.lives.specs.Calls.{Call, strip, look, check, run, Step, retold}
 use Rattle.lives.specs.Life.{Life, begins, goes_on, strip_in, is_refused, refused_result}

@@ -9,7 +9,7 @@ use Rattle.language.specs.Faults.{limits_fault, name_fault, iterator_fault, unar
 use Rattle.language.specs.Queries.{binding_fault, query_fault}
 use Rattle.lexer.specs.Toks.{toks, toks_by}
 use Rattle.parser.specs.Machine.{verdict}
-use Rattle.lives.specs.Texts.{text_says}
+use Rattle.parser.specs.Says.{text_says}
 use Rattle.shelf.specs.Laws.{LawfulCoverage}
 use Rattle.shelf.proofs.Single.{one_lawful}
 use Rattle.lives.specs.Unit.{State, SwitchedOn, no_plan}

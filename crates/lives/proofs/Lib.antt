@@ -9,4 +9,3 @@ pub mod Contents
 pub mod Lives
 pub mod Examples
 pub mod OneAnswer
-pub mod Derived

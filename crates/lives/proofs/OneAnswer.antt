@@ -3,7 +3,7 @@ use Rattle.std.proofs.Common.{◌≡◌, List, ◌++◌, map, drop, Some, None, 
 use Rattle.coverage.specs.declared.refusal.Refusal.{Refusal}
 use Rattle.shelf.specs.Meaning.{Coverage}
 use Rattle.language.specs.Queries.{answer}
-use Rattle.lives.specs.Texts.{text_says}
+use Rattle.parser.specs.Says.{text_says}
 use Rattle.lives.specs.Shelves.{describes, looks}
 use Rattle.lives.specs.Unit.{Standing, cells_of, standing}
 use Rattle.lives.specs.Entries.{entry}

@@ -6,7 +6,7 @@ use Rattle.syntax.specs.Tree.{Query}
 use Rattle.parser.specs.declared.fault.TextFault.{TextFault}
 use Rattle.language.specs.Typing.{Described}
 use Rattle.language.specs.Queries.{Announced, checked}
-use Rattle.lives.specs.Texts.{text_says}
+use Rattle.parser.specs.Says.{text_says}
 use Rattle.lives.specs.Shelves.{describes}
 use Rattle.lives.specs.Unit.{Standing, State, SwitchedOn, is_plan, no_plan}
 use Rattle.lives.specs.Calls.{Call, strip, look, check, run, Step, announces, check_says, filled, after_check}

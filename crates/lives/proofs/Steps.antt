@@ -9,7 +9,7 @@ use Rattle.shelf.specs.Laws.{Lawful}
 use Rattle.syntax.specs.Tree.{Query}
 use Rattle.parser.specs.declared.fault.TextFault.{TextFault}
 use Rattle.language.specs.Queries.{Announced}
-use Rattle.lives.specs.Texts.{text_says}
+use Rattle.parser.specs.Says.{text_says}
 use Rattle.lives.specs.Unit.{Standing, State, SwitchedOn, standing}
 use Rattle.lives.specs.Calls.{Areas, Call, strip, look, check, run, Step, after_check, AreasAfter, retold}
 use Rattle.lives.specs.Life.{Life, begins, goes_on, is_refused, AreasStay}

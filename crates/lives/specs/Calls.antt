@@ -11,7 +11,7 @@ use Rattle.parser.specs.Faults.{refusal_of}
 use Rattle.language.specs.Queries.{Announced, checked, answer, reads}
 use Rattle.lives.specs.declared.cell.Cell.{Cell}
 use Rattle.lives.specs.Entries.{entry}
-use Rattle.lives.specs.Texts.{text_says}
+use Rattle.parser.specs.Says.{text_says}
 use Rattle.lives.specs.Shelves.{describes, looks}
 use Rattle.lives.specs.Unit.{Standing, State, is_plan, standing, cells_of, no_plan, too_short}
 

@@ -1,5 +1,3 @@
-pub mod Texts
-pub mod Derived
 pub mod Shelves
 pub mod Unit
 pub mod Entries

@@ -13,7 +13,7 @@ use Rattle.syntax.specs.Tree.{Query}
 use Rattle.language.specs.Values.{value_at}
 use Rattle.language.specs.Queries.{bind_about, bind_looks, no_places, Announced, checked, answer, reads}
 use Rattle.lives.specs.declared.cell.Cell.{Cell}
-use Rattle.lives.specs.Texts.{text_says}
+use Rattle.parser.specs.Says.{text_says}
 use Rattle.lives.specs.Shelves.{describes, looks}
 use Rattle.lives.specs.Unit.{State, SwitchedOn, standing}
 use Rattle.lives.specs.Entries.{entry}

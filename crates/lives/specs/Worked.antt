@@ -12,7 +12,7 @@ use Rattle.parser.specs.Faults.{told}
 use Rattle.language.specs.Spans.{span, number}
 use Rattle.language.specs.Faults.{refuse}
 use Rattle.language.specs.Queries.{Announced, answer, reads}
-use Rattle.lives.specs.Texts.{text_says}
+use Rattle.parser.specs.Says.{text_says}
 use Rattle.lives.specs.Shelves.{describes, looks}
 use Rattle.lives.specs.Calls.{strip_says, check_says}
 

@@ -1,17 +1,10 @@
 // The theorem of lives, and cases that show what it speaks of. The functions do nothing and answer nothing:
 // what each says is its contract.
 ghost use Rattle.lives.specs.OneAnswer.{EveryCallHasOneAnswer};
-ghost use Rattle.lives.specs.Derived.{TextsSayWhatTheGrammarDerives};
 ghost use Rattle.lives.specs.Example.{SuchALifeIsLed};
 ghost use Rattle.lives.specs.Refusals.{RefusalsComeInTurn};
 ghost use Rattle.lives.specs.Theorem.{EveryLifeKeepsItsPromises, EveryRunKeepsItsPromises};
 ghost use Rattle.lives.specs.Worked.{WorkedCasesOnTheirTexts};
-
-/// A text says a query just where the grammar derives that query from its tokens, within the limits; else it
-/// is refused for its length, its tokens, the grammar or the limits, in this order.
-pub fn texts_say_what_the_grammar_derives()
-    ensures { TextsSayWhatTheGrammarDerives }
-{}
 
 /// Whatever the state and the arguments, a call has an answer and a state after it, and only one of each.
 pub fn every_call_has_one_answer()

@@ -1,3 +1,4 @@
+pub mod Faults
 pub mod Picture
 pub mod Replies
 pub mod Answers

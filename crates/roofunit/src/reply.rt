@@ -1,9 +1,10 @@
-// Replies: the line that is printed, and the number of the refusal that it tells, if any.
+// Replies: the line that is printed, and why the call was refused, if it was.
 ghost use Rattle.written.specs.Format.{not_a_form};
 ghost use Rattle.roofunit.specs.Replies.{GridTold, LookTold, Plain, Refuses, StripTold};
-ghost use Rattle.shelf.specs.Faults.{shelf_refusal};
+ghost use Rattle.roofunit.specs.declared.fault.Fault.TheVariants.{Shelf};
 ghost use Rattle.std.specs.Prelude.{◌≡◌, IfOk, string_bytes};
 
+use crate::fault::Fault;
 use coverage::Refusal;
 use shelf::{MakingFault, ShelfFault};
 use std::alloc::{AllocError, Global};
@@ -13,17 +14,27 @@ use written::{cell_line, grid_line, refusal_line, stop_line, strip_line};
 #[derive(Drop)]
 pub struct Reply {
     pub line: String,
-    pub refused: Option<u32>,
+    pub refused: Option<Fault>,
+}
+
+/// A line that tells no refusal.
+pub fn plain(line: String) -> Reply
+    ensures { Plain (string_bytes line) result }
+{
+    Reply {
+        line,
+        refused: None,
+    }
 }
 
 /// A refusal.
-fn refused(heap: Global, refusal: Refusal) -> Result<Reply, AllocError>
-    ensures { IfOk result (Refuses refusal) }
+fn refused(heap: Global, fault: Fault) -> Result<Reply, AllocError>
+    ensures { IfOk result (Refuses fault) }
 {
-    let line = refusal_line(heap, refusal)?;
+    let line = refusal_line(heap, Refusal::from(fault))?;
     Ok(Reply {
         line,
-        refused: Some(refusal.number),
+        refused: Some(fault),
     })
 }
 
@@ -32,11 +43,8 @@ pub fn grid_reply(heap: Global, made: Result<(), MakingFault>) -> Result<Reply, 
     ensures { IfOk result (GridTold made) }
 {
     match made {
-        Ok(()) => Ok(Reply {
-            line: grid_line(heap, 0)?,
-            refused: None,
-        }),
-        Err(fault) => refused(heap, fault.refusal()),
+        Ok(()) => grid_line(heap, 0).map(plain),
+        Err(fault) => refused(heap, Fault::Making(fault)),
     }
 }
 
@@ -50,11 +58,8 @@ pub fn strip_reply(
     ensures { IfOk result (StripTold coverage strip put) }
 {
     match put {
-        Ok(()) => Ok(Reply {
-            line: strip_line(heap, coverage, strip)?,
-            refused: None,
-        }),
-        Err(fault) => refused(heap, fault.refusal()),
+        Ok(()) => strip_line(heap, coverage, strip).map(plain),
+        Err(fault) => fault_reply(heap, fault),
     }
 }
 
@@ -66,11 +71,8 @@ pub fn look_reply(
     ensures { IfOk result (LookTold looked) }
 {
     match looked {
-        Ok(cell) => Ok(Reply {
-            line: cell_line(heap, cell)?,
-            refused: None,
-        }),
-        Err(fault) => refused(heap, fault.refusal()),
+        Ok(cell) => cell_line(heap, cell).map(plain),
+        Err(fault) => fault_reply(heap, fault),
     }
 }
 
@@ -78,35 +80,19 @@ pub fn look_reply(
 pub fn stop_reply(heap: Global, place: usize) -> Result<Reply, AllocError>
     ensures { IfOk result (Plain (not_a_form place)) }
 {
-    Ok(Reply {
-        line: stop_line(heap, place)?,
-        refused: None,
-    })
+    stop_line(heap, place).map(plain)
 }
 
 /// A line that stands as it is.
 pub fn plain_reply(heap: Global, text: &str) -> Result<Reply, AllocError>
     ensures { IfOk result (Plain text.now) }
 {
-    Ok(Reply {
-        line: String::from_str(heap, text)?,
-        refused: None,
-    })
-}
-
-/// A picture, or why there is none.
-pub fn picture_reply(drawn: String) -> Reply
-    ensures { Plain (string_bytes drawn) result }
-{
-    Reply {
-        line: drawn,
-        refused: None,
-    }
+    text.to_string(heap).map(plain)
 }
 
 /// A shelf's fault.
 pub fn fault_reply(heap: Global, fault: ShelfFault) -> Result<Reply, AllocError>
-    ensures { IfOk result (Refuses (shelf_refusal fault)) }
+    ensures { IfOk result (Refuses (Shelf fault)) }
 {
-    refused(heap, fault.refusal())
+    refused(heap, Fault::Shelf(fault))
 }

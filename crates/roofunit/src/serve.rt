@@ -5,9 +5,7 @@ ghost use Rattle.shelf.specs.Meaning.{describe_answer};
 ghost use Rattle.std.specs.Prelude.{IfOk};
 
 use crate::picture::picture;
-use crate::reply::{
-    Reply, fault_reply, look_reply, picture_reply, plain_reply, stop_reply, strip_reply,
-};
+use crate::reply::{Reply, fault_reply, look_reply, plain, plain_reply, stop_reply, strip_reply};
 use lines::{Command, parse, read_cells};
 use shelf::{ReceivingShelf, Shelf};
 use std::alloc::{AllocError, Global};
@@ -17,7 +15,7 @@ fn show<S: Shelf>(heap: Global, shelf: &S, coverage: usize) -> Result<Reply, All
     ensures { IfOk result (ShowTold (describe_answer (S.Shelf.meaning shelf.now) coverage)) }
 {
     match shelf.describe(coverage) {
-        Ok(about) => Ok(picture_reply(picture(heap, shelf, coverage, about)?)),
+        Ok(about) => picture(heap, shelf, coverage, about).map(plain),
         Err(fault) => fault_reply(heap, fault),
     }
 }

@@ -1,6 +1,6 @@
 -- Cells that all fit a kind, one by one.
 use Rattle.std.proofs.Common.{◌≡◌, ℕ, ◌<◌, Bool, true, false, cond, ◌&&◌, eqb, ltb, List, length, get_or, ℤ, pos, Some, None, Decides, Option, refl, arith, ltb-true, eqb-true}
-use Rattle.std.specs.List.{AllByRecursion as All}
+use Rattle.std.specs.List.{AllByRecursion as All, list_all}
 use Rattle.std.proofs.ByRecursion.{Decides-by_and, All-get_or}
 use Rattle.coverage.specs.declared.kind.Kind.{Kind}
 use Rattle.coverage.specs.declared.description.Description.{Description}
@@ -13,7 +13,7 @@ use Rattle.shelf.specs.declared.fault.ShelfFault.TheVariants.{Fixed, NoStrip, Un
 use Rattle.shelf.specs.Meaning.{all_fit, shape_fault}
 
 all_fit_is : (k : Kind) (xs : List ℤ) → Decides (all_fit k xs) (All (λ v. fits k v ≡ true) xs)
-all_fit_is k xs = Decides-by_and (fits k) (λ v. fits k v ≡ true) (all_fit k) (λ x. ((λ e. e), (λ e. e))) refl (λ _ _. refl) xs
+all_fit_is k xs = Decides-by_and (fits k) (λ v. fits k v ≡ true) (list_all (fits k)) (λ x. ((λ e. e), (λ e. e))) refl (λ _ _. refl) xs
 
 pub fit_each : (k : Kind) (xs : List ℤ) → all_fit k xs ≡ true → (i : ℕ) → i < length xs → fits k (get_or xs i (pos 0)) ≡ true
 fit_each k xs e i h = All-get_or (λ v. fits k v ≡ true) xs i (pos 0) h ((all_fit_is k xs).0 e)

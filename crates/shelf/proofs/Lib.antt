@@ -3,3 +3,4 @@ pub mod Fits
 pub mod Single
 pub mod Shapes
 pub mod Numbers
+pub mod Answering

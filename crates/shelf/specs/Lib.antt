@@ -1,3 +1,4 @@
 pub mod Faults
+pub mod Sentences
 pub mod Meaning
 pub mod Laws

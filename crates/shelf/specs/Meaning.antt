@@ -1,6 +1,6 @@
 -- What a shelf means, what its calls answer, and what a strip leaves.
-use Rattle.std.specs.Prelude.{ℕ, zero, suc, Bool, true, cond, ◌&&◌, List, [], ◌∷◌, length, ℤ, pos, is_some, Some, None, Ok, Err, Option, Result, ◌==◌, nat_lt, slice_index_or}
-use Rattle.std.specs.List.{slice_get}
+use Rattle.std.specs.Prelude.{ℕ, zero, suc, Bool, cond, ◌&&◌, List, [], ◌∷◌, length, ℤ, pos, is_some, Some, None, Ok, Err, Option, Result, ◌==◌, nat_lt, slice_index_or}
+use Rattle.std.specs.List.{list_all, slice_get}
 use Rattle.std.specs.Str.{bytes_eq}
 use Rattle.coverage.specs.declared.axis.Axis.TheVariants.{X}
 use Rattle.coverage.specs.declared.range.Range.{Range}
@@ -60,9 +60,9 @@ look_answer m c p = looked (slice_get m c) c p
 
 -- ---- strips
 
+-- each of some cells is a value of a kind
 abbrev pub all_fit : Kind → List ℤ → Bool
-all_fit k [] = true
-all_fit k (v ∷ vs) = fits k v && all_fit k vs
+all_fit k cs = list_all (fits k) cs
 
 -- the cells of a strip put where it stands, and all else left
 abbrev pub put_strip : Coverage → ℕ → List ℤ → Coverage
@@ -102,7 +102,8 @@ fault_at (Some k) c n cs = strip_refused k c n cs
 abbrev pub strip_fault : List Coverage → ℕ → ℕ → List ℤ → Option ShelfFault
 strip_fault m c n cs = fault_at (slice_get m c) c n cs
 
-abbrev pub answer_of : Option ShelfFault → Result (Unit {0}) ShelfFault
+-- what is answered to a call that has nothing to tell: the fault, if any
+abbrev pub answer_of : {F : Type 0} → Option F → Result (Unit {0}) F
 answer_of None = Ok tt
 answer_of (Some f) = Err f
 

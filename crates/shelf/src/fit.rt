@@ -1,5 +1,5 @@
 ghost use Rattle.coverage.specs.Limits.{describable};
-ghost use Rattle.shelf.specs.Meaning.{all_fit, shape_fault};
+ghost use Rattle.shelf.specs.Meaning.{all_fit, answer_of, shape_fault};
 ghost use Rattle.coverage.specs.Kinds.{fits};
 ghost use Rattle.coverage.specs.Axes.{extents};
 ghost use Rattle.coverage.specs.Strips.{row_width};
@@ -19,12 +19,7 @@ pub fn is_fit(kind: Kind, v: i32) -> bool
 pub fn all_fit(kind: Kind, cells: &[i32]) -> bool
     ensures { result ≡ all_fit kind cells.now }
 {
-    for v in cells {
-        if !is_fit(kind, *v) {
-            return false;
-        }
-    }
-    true
+    cells.iter().all(|v| is_fit(kind, *v))
 }
 
 /// Whether cells are as many as a row has, each of the kind.
@@ -37,23 +32,23 @@ fn is_row(about: Description, cells: &[i32]) -> bool
 
 /// Why a strip does not fit a coverage, or nothing: the coverage is fixed, it has no such strip, the
 /// strip has a wrong length or a cell outside the kind.
-pub fn shape_fault(
+pub fn check_shape(
     about: Description,
     coverage: usize,
     strip: usize,
     cells: &[i32],
-) -> Option<ShelfFault>
+) -> Result<(), ShelfFault>
     requires { describable about ≡ true }
-    ensures { result ≡ shape_fault about coverage strip cells.now }
+    ensures { result ≡ answer_of (shape_fault about coverage strip cells.now) }
 {
     if !about.receives {
-        return Some(ShelfFault::Fixed(coverage, strip));
+        return Err(ShelfFault::Fixed { coverage, strip });
     }
     if strip >= about.domain.strips() {
-        return Some(ShelfFault::NoStrip(coverage, strip));
+        return Err(ShelfFault::NoStrip { coverage, strip });
     }
     if !is_row(about, cells) {
-        return Some(ShelfFault::Unfit(coverage, strip));
+        return Err(ShelfFault::Unfit { coverage, strip });
     }
-    None
+    Ok(())
 }

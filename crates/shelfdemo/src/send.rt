@@ -13,6 +13,6 @@ pub fn send<S: ReceivingShelf>(
     let heap = rt.alloc();
     match shelf.strip(coverage, strip, cells) {
         Ok(()) => rt.println(strip_line(heap, coverage, strip)?),
-        Err(fault) => rt.println(refusal_line(heap, fault.refusal())?),
+        Err(fault) => rt.println(refusal_line(heap, fault.into())?),
     }
 }

@@ -1,11 +1,12 @@
 // Answers by the numbers of their refusals.
+use coverage::Refusal;
 use shelf::{MakingFault, ShelfFault};
 
 /// The number of a making's refusal, 0 where it is allowed.
 pub fn told(answer: Result<(), MakingFault>) -> u32 {
     match answer {
         Ok(()) => 0,
-        Err(fault) => fault.refusal().number,
+        Err(fault) => Refusal::from(fault).number,
     }
 }
 
@@ -13,7 +14,7 @@ pub fn told(answer: Result<(), MakingFault>) -> u32 {
 pub fn looked(answer: Result<Option<i32>, ShelfFault>) -> Result<Option<i32>, u32> {
     match answer {
         Ok(cell) => Ok(cell),
-        Err(fault) => Err(fault.refusal().number),
+        Err(fault) => Err(Refusal::from(fault).number),
     }
 }
 
@@ -21,6 +22,6 @@ pub fn looked(answer: Result<Option<i32>, ShelfFault>) -> Result<Option<i32>, u3
 pub fn stripped(answer: Result<(), ShelfFault>) -> u32 {
     match answer {
         Ok(()) => 0,
-        Err(fault) => fault.refusal().number,
+        Err(fault) => Refusal::from(fault).number,
     }
 }

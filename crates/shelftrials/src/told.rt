@@ -13,7 +13,7 @@ fn tell_refusal(rt: &HostRuntime, refusal: Refusal) -> io::Result<()> {
 pub fn tell_making(rt: &HostRuntime, answer: Result<(), MakingFault>) -> io::Result<()> {
     match answer {
         Ok(()) => println!(rt; "allowed"),
-        Err(fault) => tell_refusal(rt, fault.refusal()),
+        Err(fault) => tell_refusal(rt, fault.into()),
     }
 }
 
@@ -21,7 +21,7 @@ pub fn tell_making(rt: &HostRuntime, answer: Result<(), MakingFault>) -> io::Res
 pub fn tell_strip(rt: &HostRuntime, answer: Result<(), ShelfFault>) -> io::Result<()> {
     match answer {
         Ok(()) => println!(rt; "put"),
-        Err(fault) => tell_refusal(rt, fault.refusal()),
+        Err(fault) => tell_refusal(rt, fault.into()),
     }
 }
 
@@ -29,7 +29,7 @@ pub fn tell_strip(rt: &HostRuntime, answer: Result<(), ShelfFault>) -> io::Resul
 pub fn tell_look(rt: &HostRuntime, answer: Result<Option<i32>, ShelfFault>) -> io::Result<()> {
     match answer {
         Ok(cell) => rt.println(cell_line(rt.alloc(), cell)?),
-        Err(fault) => tell_refusal(rt, fault.refusal()),
+        Err(fault) => tell_refusal(rt, fault.into()),
     }
 }
 
@@ -46,7 +46,7 @@ pub fn tell_description(
             let high = about.kind.high();
             println!(rt; "{cells} cells, {strips} strips, {low} to {high}")
         }
-        Err(fault) => tell_refusal(rt, fault.refusal()),
+        Err(fault) => tell_refusal(rt, fault.into()),
     }
 }
 

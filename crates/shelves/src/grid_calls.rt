@@ -3,7 +3,7 @@ ghost use Rattle.shelf_laws.specs.Grid.{grid_meaning};
 
 use crate::grid::Grid;
 use coverage::{Description, Point};
-use shelf::fit::shape_fault;
+use shelf::fit::check_shape;
 use shelf::{ReceivingShelf, Shelf, ShelfFault};
 use shelf_laws::rows::put_row;
 
@@ -25,7 +25,7 @@ impl<'a> Shelf for Grid<'a> {
     fn describe(&self, coverage: usize) -> Result<Description, ShelfFault> {
         match self.about {
             Some(about) if coverage == 0 => Ok(about),
-            _ => Err(ShelfFault::NoCoverage(coverage, 0)),
+            _ => Err(ShelfFault::NoCoverage { coverage, strip: 0 }),
         }
     }
 
@@ -38,13 +38,13 @@ impl<'a> Shelf for Grid<'a> {
 
     fn look(&self, coverage: usize, at: Point) -> Result<Option<i32>, ShelfFault> {
         let Some(about) = self.about else {
-            return Err(ShelfFault::NoCoverage(coverage, 0));
+            return Err(ShelfFault::NoCoverage { coverage, strip: 0 });
         };
         if coverage != 0 {
-            return Err(ShelfFault::NoCoverage(coverage, 0));
+            return Err(ShelfFault::NoCoverage { coverage, strip: 0 });
         }
         if !about.domain.contains(at) {
-            return Err(ShelfFault::Outside(coverage));
+            return Err(ShelfFault::Outside { coverage });
         }
         let i = about.domain.cell_number(at);
         let v = self.rows.cells[i];
@@ -55,17 +55,15 @@ impl<'a> Shelf for Grid<'a> {
 impl<'a> ReceivingShelf for Grid<'a> {
     fn strip(&mut self, coverage: usize, strip: usize, cells: &[i32]) -> Result<(), ShelfFault> {
         let Some(about) = self.about else {
-            return Err(ShelfFault::NoCoverage(coverage, strip));
+            return Err(ShelfFault::NoCoverage { coverage, strip });
         };
         if coverage != 0 {
-            return Err(ShelfFault::NoCoverage(coverage, strip));
+            return Err(ShelfFault::NoCoverage { coverage, strip });
         }
-        if let Some(fault) = shape_fault(about, coverage, strip, cells) {
-            return Err(fault);
-        }
+        check_shape(about, coverage, strip, cells)?;
         let at = about.domain.strip_start(strip);
         if self.rows.cells[at] != NULL {
-            return Err(ShelfFault::AlreadyThere(coverage, strip));
+            return Err(ShelfFault::AlreadyThere { coverage, strip });
         }
         put_row(&mut self.rows, at, cells);
         Ok(())

@@ -28,7 +28,7 @@ pub fn check_grid(name: &[u8], domain: Domain, kind: Kind, length: usize) -> Res
         return Err(MakingFault::ManyCells);
     }
     if length != cells {
-        return Err(MakingFault::WrongLength(cells));
+        return Err(MakingFault::WrongLength { wanted: cells });
     }
     Ok(())
 }

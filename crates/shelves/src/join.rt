@@ -27,7 +27,7 @@ impl<'j, 'k, A: Shelf, B: Shelf> Shelf for Join<'j, 'k, A, B> {
 
     fn describe(&self, coverage: usize) -> Result<Description, ShelfFault> {
         if coverage >= MOST {
-            return Err(ShelfFault::NoCoverage(coverage, 0));
+            return Err(ShelfFault::NoCoverage { coverage, strip: 0 });
         }
         let k = self.first.count();
         if coverage < k {
@@ -52,7 +52,7 @@ impl<'j, 'k, A: Shelf, B: Shelf> Shelf for Join<'j, 'k, A, B> {
 
     fn look(&self, coverage: usize, at: Point) -> Result<Option<i32>, ShelfFault> {
         if coverage >= MOST {
-            return Err(ShelfFault::NoCoverage(coverage, 0));
+            return Err(ShelfFault::NoCoverage { coverage, strip: 0 });
         }
         let k = self.first.count();
         if coverage < k {
@@ -68,7 +68,7 @@ impl<'j, 'k, A: Shelf, B: Shelf> Shelf for Join<'j, 'k, A, B> {
 impl<'j, 'k, A: ReceivingShelf, B: ReceivingShelf> ReceivingShelf for Join<'j, 'k, A, B> {
     fn strip(&mut self, coverage: usize, strip: usize, cells: &[i32]) -> Result<(), ShelfFault> {
         if coverage >= MOST {
-            return Err(ShelfFault::NoCoverage(coverage, strip));
+            return Err(ShelfFault::NoCoverage { coverage, strip });
         }
         let k = self.first.count();
         if coverage < k {

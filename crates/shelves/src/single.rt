@@ -40,7 +40,7 @@ pub(crate) fn held(
 {
     match about {
         Some(about) if coverage == 0 => Ok(about),
-        _ => Err(ShelfFault::NoCoverage(coverage, strip)),
+        _ => Err(ShelfFault::NoCoverage { coverage, strip }),
     }
 }
 
@@ -54,7 +54,7 @@ pub(crate) fn reach(
 {
     let about = held(about, coverage, 0)?;
     if !about.domain.contains(at) {
-        return Err(ShelfFault::Outside(coverage));
+        return Err(ShelfFault::Outside { coverage });
     }
     Ok(about)
 }
@@ -64,7 +64,7 @@ pub(crate) fn fixed_fault(about: Option<Description>, coverage: usize, strip: us
     ensures { result ≡ fixed_fault about coverage strip }
 {
     match held(about, coverage, strip) {
-        Ok(_) => ShelfFault::Fixed(coverage, strip),
+        Ok(_) => ShelfFault::Fixed { coverage, strip },
         Err(fault) => fault,
     }
 }

@@ -37,7 +37,7 @@ fn view<S: Shelf>(below: &S, coverage: usize, cut: Cut) -> Result<View, MakingFa
                 about: seen,
             })
         }
-        Err(_) => Err(MakingFault::NoCoverage(coverage)),
+        Err(_) => Err(MakingFault::NoCoverage { coverage }),
     }
 }
 
@@ -78,11 +78,11 @@ impl<'w, S: Shelf> Shelf for Window<'w, S> {
 
     fn describe(&self, coverage: usize) -> Result<Description, ShelfFault> {
         if coverage != 0 {
-            return Err(ShelfFault::NoCoverage(coverage, 0));
+            return Err(ShelfFault::NoCoverage { coverage, strip: 0 });
         }
         match view(self.below, self.coverage, self.cut) {
             Ok(view) => Ok(view.about),
-            Err(_) => Err(ShelfFault::NoCoverage(coverage, 0)),
+            Err(_) => Err(ShelfFault::NoCoverage { coverage, strip: 0 }),
         }
     }
 
@@ -101,19 +101,19 @@ impl<'w, S: Shelf> Shelf for Window<'w, S> {
 
     fn look(&self, coverage: usize, at: Point) -> Result<Option<i32>, ShelfFault> {
         if coverage != 0 {
-            return Err(ShelfFault::NoCoverage(coverage, 0));
+            return Err(ShelfFault::NoCoverage { coverage, strip: 0 });
         }
         match view(self.below, self.coverage, self.cut) {
             Ok(view) => {
                 if !view.about.domain.contains(at) {
-                    return Err(ShelfFault::Outside(coverage));
+                    return Err(ShelfFault::Outside { coverage });
                 }
                 match self.below.look(self.coverage, at) {
                     Ok(cell) => Ok(cell),
                     Err(fault) => Err(fault.renumbered(coverage, 0)),
                 }
             }
-            Err(_) => Err(ShelfFault::NoCoverage(coverage, 0)),
+            Err(_) => Err(ShelfFault::NoCoverage { coverage, strip: 0 }),
         }
     }
 }
@@ -121,16 +121,16 @@ impl<'w, S: Shelf> Shelf for Window<'w, S> {
 impl<'w, S: ReceivingShelf> ReceivingShelf for Window<'w, S> {
     fn strip(&mut self, coverage: usize, strip: usize, cells: &[i32]) -> Result<(), ShelfFault> {
         if coverage != 0 {
-            return Err(ShelfFault::NoCoverage(coverage, strip));
+            return Err(ShelfFault::NoCoverage { coverage, strip });
         }
         let Ok(view) = view(self.below, self.coverage, self.cut) else {
-            return Err(ShelfFault::NoCoverage(coverage, strip));
+            return Err(ShelfFault::NoCoverage { coverage, strip });
         };
         if !view.about.receives {
-            return Err(ShelfFault::Fixed(coverage, strip));
+            return Err(ShelfFault::Fixed { coverage, strip });
         }
         if strip >= view.about.domain.strips() {
-            return Err(ShelfFault::NoStrip(coverage, strip));
+            return Err(ShelfFault::NoStrip { coverage, strip });
         }
         let below = view
             .whole

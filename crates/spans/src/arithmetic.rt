@@ -1,45 +1,49 @@
 // The spans of `+ - * /`: the lowest and highest result over the four pairs of span ends.
-ghost use Rattle.std.specs.Prelude.{◌≡◌, false};
-ghost use Rattle.syntax.specs.declared.Arithmetic.TheVariants.{Plus, Subtract, Multiply, Divide};
-ghost use Rattle.language.specs.Operators.{arithmetic};
-ghost use Rattle.language.specs.Spans.{corners, holds_zero};
-ghost use Rattle.spans.specs.Pairs.{spanned, Bounded};
+ghost use Rattle.std.specs.Prelude.{◌≡◌, ◌≤◌, false, ◌&&◌, unsigned_abs};
+ghost use Rattle.std.specs.Int.{int_min, int_max};
+ghost use Rattle.syntax.specs.declared.Binary.TheVariants.{Numbers};
+ghost use Rattle.language.specs.Faults.{is_division};
+ghost use Rattle.language.specs.Limits.{widest};
+ghost use Rattle.language.specs.Operators.{arithmetic, is_zero};
+ghost use Rattle.language.specs.Spans.{corners, holds_zero, span};
 
-use crate::ends::{Span, around};
+use crate::shapes::hull;
+use crate::span::Span;
+use coverage::Range;
+use syntax::Arithmetic;
 
-/// The span of `+`.
-pub fn sum(a: Span, b: Span) -> Span
-    requires left { Bounded a }
-    requires right { Bounded b }
-    ensures { spanned result ≡ corners (arithmetic Plus) (spanned a) (spanned b) }
+/// What an operator gives of two values within the bounds; nothing is divided by 0.
+fn apply(o: Arithmetic, p: i64, q: i64) -> i64
+    requires left { unsigned_abs p ≤ widest }
+    requires right { unsigned_abs q ≤ widest }
+    requires apart { (is_division (Numbers o) && is_zero q) ≡ false }
+    ensures { result ≡ arithmetic o p q }
 {
-    around(a.0 + b.0, a.0 + b.1, a.1 + b.0, a.1 + b.1)
+    match o {
+        Arithmetic::Plus => p + q,
+        Arithmetic::Subtract => p - q,
+        Arithmetic::Multiply => p * q,
+        Arithmetic::Divide => p / q,
+    }
 }
 
-/// The span of `-` between two operands.
-pub fn difference(a: Span, b: Span) -> Span
-    requires left { Bounded a }
-    requires right { Bounded b }
-    ensures { spanned result ≡ corners (arithmetic Subtract) (spanned a) (spanned b) }
+/// The span of an operator with one value on its left, over the ends of the span on its right.
+fn row(o: Arithmetic, p: i64, b: Span) -> Range
+    requires left { unsigned_abs p ≤ widest }
+    requires apart { (is_division (Numbers o) && holds_zero b.range) ≡ false }
+    ensures { let f = arithmetic o p in result ≡ span (int_min (f b.range.lo) (f b.range.hi)) (int_max (f b.range.lo) (f b.range.hi)) }
 {
-    around(a.0 - b.0, a.0 - b.1, a.1 - b.0, a.1 - b.1)
+    let (q, r) = (apply(o, p, b.range.lo), apply(o, p, b.range.hi));
+    Range {
+        lo: q.min(r),
+        hi: q.max(r),
+    }
 }
 
-/// The span of `*`.
-pub fn product(a: Span, b: Span) -> Span
-    requires left { Bounded a }
-    requires right { Bounded b }
-    ensures { spanned result ≡ corners (arithmetic Multiply) (spanned a) (spanned b) }
+/// The span of `+ - * /`; a divisor's span does not hold 0.
+pub fn corners(o: Arithmetic, a: Span, b: Span) -> Range
+    requires { (is_division (Numbers o) && holds_zero b.range) ≡ false }
+    ensures { result ≡ corners (arithmetic o) a.range b.range }
 {
-    around(a.0 * b.0, a.0 * b.1, a.1 * b.0, a.1 * b.1)
-}
-
-/// The span of `/`, by a divisor whose span does not hold 0.
-pub fn quotient(a: Span, b: Span) -> Span
-    requires left { Bounded a }
-    requires right { Bounded b }
-    requires apart { holds_zero (spanned b) ≡ false }
-    ensures { spanned result ≡ corners (arithmetic Divide) (spanned a) (spanned b) }
-{
-    around(a.0 / b.0, a.0 / b.1, a.1 / b.0, a.1 / b.1)
+    hull(row(o, a.range.lo, b), row(o, a.range.hi, b))
 }

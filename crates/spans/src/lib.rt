@@ -1,11 +1,11 @@
-//! The spans of results, as code. Every function takes and answers (lowest, highest) pairs of i64, and
-//! what it answers is what the definitions of the query language say, for every pair in bounds.
+//! The spans of results, as code. Every function answers what the definitions of the query language say:
+//! those that reckon with the ends of a span take it within the bounds, so that no result leaves 64 bits.
 #![tactic(auto)]
 
 pub mod arithmetic;
-pub mod ends;
 pub mod shapes;
+pub mod span;
 
-pub use arithmetic::{difference, product, quotient, sum};
-pub use ends::Span;
+pub use arithmetic::corners;
 pub use shapes::{holds_zero, hull, magnitude, negation, times, with_zero};
+pub use span::Span;

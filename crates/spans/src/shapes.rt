@@ -2,54 +2,66 @@
 ghost use Rattle.std.specs.Prelude.{◌≡◌, ◌≤◌};
 ghost use Rattle.language.specs.Spans.{negated, magnitudes, hull as hull_of, times as times_of, with_zero, holds_zero};
 ghost use Rattle.language.specs.Limits.{most_cells};
-ghost use Rattle.spans.specs.Pairs.{spanned, Bounded};
 
-use crate::ends::{Span, higher, lower};
+use crate::span::Span;
+use coverage::Range;
 
 /// The span of prefix `-`: l to h turns into -h to -l.
-pub fn negation(a: Span) -> Span
-    requires bounded { Bounded a }
-    ensures { spanned result ≡ negated (spanned a) }
+pub fn negation(a: Span) -> Range
+    ensures { result ≡ negated a.range }
 {
-    (-a.1, -a.0)
+    Range {
+        lo: -a.range.hi,
+        hi: -a.range.lo,
+    }
 }
 
 /// The span of `abs`: the least to the greatest magnitude.
-pub fn magnitude(a: Span) -> Span
-    requires bounded { Bounded a }
-    ensures { spanned result ≡ magnitudes (spanned a) }
+pub fn magnitude(a: Span) -> Range
+    ensures { result ≡ magnitudes a.range }
 {
     let opposite = negation(a);
-    (higher(0, higher(a.0, opposite.0)), higher(a.1, opposite.1))
+    Range {
+        lo: i64::max(0, a.range.lo.max(opposite.lo)),
+        hi: a.range.hi.max(opposite.hi),
+    }
 }
 
 /// The narrowest span that holds two others.
-pub fn hull(a: Span, b: Span) -> Span
-    ensures { spanned result ≡ hull_of (spanned a) (spanned b) }
+pub fn hull(a: Range, b: Range) -> Range
+    ensures { result ≡ hull_of a b }
 {
-    (lower(a.0, b.0), higher(a.1, b.1))
+    Range {
+        lo: a.lo.min(b.lo),
+        hi: a.hi.max(b.hi),
+    }
 }
 
 /// The span of a sum of `n` values.
-pub fn times(n: usize, a: Span) -> Span
+pub fn times(n: usize, a: Span) -> Range
     requires few { n ≤ most_cells }
-    requires bounded { Bounded a }
-    ensures { spanned result ≡ times_of n (spanned a) }
+    ensures { result ≡ times_of n a.range }
 {
     let n = n as i64;
-    (n * a.0, n * a.1)
+    Range {
+        lo: n * a.range.lo,
+        hi: n * a.range.hi,
+    }
 }
 
 /// A span widened to hold 0.
-pub fn with_zero(a: Span) -> Span
-    ensures { spanned result ≡ with_zero (spanned a) }
+pub fn with_zero(a: Range) -> Range
+    ensures { result ≡ with_zero a }
 {
-    (lower(0, a.0), higher(0, a.1))
+    Range {
+        lo: a.lo.min(0),
+        hi: a.hi.max(0),
+    }
 }
 
 /// Whether 0 lies in a span.
-pub fn holds_zero(a: Span) -> bool
-    ensures { result ≡ holds_zero (spanned a) }
+pub fn holds_zero(a: Range) -> bool
+    ensures { result ≡ holds_zero a }
 {
-    a.0 <= 0 && 0 <= a.1
+    a.holds(0)
 }

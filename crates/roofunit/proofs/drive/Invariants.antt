@@ -1,5 +1,5 @@
 use Rattle.roofunit.specs.Answers.{Led}
 use Rattle.roofunit.proofs.drive.Given as goal
 
-abbrev pub invariant-loop : goal.invariant-loop
-invariant-loop g l = Led (g.S.Shelf.meaning l.initial.shelf) (g.S.Shelf.meaning l.shelf)
+abbrev pub invariant-loop-line : goal.invariant-loop-line
+invariant-loop-line g l = Led (g.S.Shelf.meaning l.initial.shelf) (g.S.Shelf.meaning l.shelf)

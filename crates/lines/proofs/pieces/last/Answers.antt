@@ -1,8 +1,9 @@
-use Rattle.lines.proofs.Literals.{close_early, close_last}
+use Rattle.std.proofs.Common.{sym, ◌∙◌}
+use Rattle.lines.proofs.Endings.{more_after, none_after}
 use Rattle.lines.proofs.pieces.last.Goals as goal
 
-pub returns-then-end-line : goal.returns-then-end-line
-returns-then-end-line c = close_early c.args.line.now c.args.at c.in_ok-end.end c.if-end-line.true c.in_ok-end.ensures.0
+pub returns-in-Some : goal.returns-in-Some
+returns-in-Some c = let r = c.in_ok-literal.ensures in more_after _ _ r.1 _ (sym c.byte.ensures ∙ c.in-Some.is)
 
-pub returns-else-end-line : goal.returns-else-end-line
-returns-else-end-line c = close_last c.args.line.now c.args.at c.in_ok-end.end c.if-end-line.false c.in_ok-end.ensures.0 c.in_ok-end.ensures.1
+pub returns-in-None : goal.returns-in-None
+returns-in-None c = let r = c.in_ok-literal.ensures in let e = none_after _ _ r.1 (sym c.byte.ensures ∙ c.in-None.is) in (e.0, e.1 ∙ r.2)

@@ -1,19 +1,17 @@
-use Rattle.std.proofs.Common.{sym, ◌∙◌, arith}
-use Rattle.std.proofs.lemmas.List.Sums.{prefix_len-drop_yes, prefix_len-drop_no, prefix_len-drop_all}
+use Rattle.std.proofs.Common.{rules}
 use Rattle.lines.specs.Pieces.{is_name_byte}
+use Rattle.lines.proofs.Runs.{Run, name_reads, name_bytes}
 use Rattle.lines.proofs.pieces.name.Goals as goal
+use Rattle.lines.proofs.pieces.name.Goals.{After-run}
 
-pub loop-here-preserved : goal.loop-here-preserved
-loop-here-preserved c =
-    let h = prefix_len-drop_yes is_name_byte c.args.line.now c.loop-here.here 0 (omega arith) (sym c.is_name_byte.ensures ∙ c.if-is_name_byte.true) in
-    omega (arith, h)
+run : (c : After-run) → Run is_name_byte c.run.result.now c.args.from.now c.run.new.self
+run c = record { text = c.run.ensures.text; part = c.run.ensures.run; bytes = c.run.ensures.rest; end = c.run.ensures.by_test is_name_byte (λ b r h k. search rules) }
 
-pub returns-else-is_name_byte : goal.returns-else-is_name_byte
-returns-else-is_name_byte c =
-    let h = prefix_len-drop_no is_name_byte c.args.line.now c.loop-here.here 0 (omega arith) (sym c.is_name_byte.ensures ∙ c.if-is_name_byte.false) in
-    omega (arith, h)
+pub returns-clause-read : goal.returns-clause-read
+returns-clause-read c = name_reads (run c)
 
-pub returns-after-loop-here : goal.returns-after-loop-here
-returns-after-loop-here c =
-    let h = prefix_len-drop_all is_name_byte c.args.line.now c.loop-here.here (omega arith) in
-    omega (arith, h)
+pub returns-clause-name : goal.returns-clause-name
+returns-clause-name c = name_bytes (run c)
+
+pub returns-clause-longest : goal.returns-clause-longest
+returns-clause-longest c = (run c).end

@@ -1,25 +1,21 @@
-use Rattle.std.proofs.Common.{◌≡◌, pos, arith, w64, SFits, to_z, rules}
-use Rattle.std.proofs.lemmas.Int.{to_z-of_z, to_z_pos}
-use Rattle.spans.proofs.Fitting.{low_small, high_small, times_fits, times_made}
+use Rattle.std.proofs.Common.{ℕ, ◌≤◌, ℤ, pos, ◌*ℤ◌, ◌≡◌, arith, to_z, unsigned_abs, w64, SFits, rules, lit<}
+use Rattle.std.proofs.lemmas.Int.{ints, fits_signed_mul, to_z-of_z, to_z_pos}
+use Rattle.language.specs.Limits.{most_cells, widest}
 use Rattle.spans.proofs.shapes.times.Goals as goal
+
+-- a number of cells times a value
+fits : (n : ℕ) (v : ℤ) → n ≤ most_cells → unsigned_abs v ≤ widest → SFits w64 (pos n *ℤ v)
+fits n v few small = fits_signed_mul w64 (pos n) v most_cells widest few small (lit< tt)
 
 pub overflow_mul-result : goal.overflow_mul-result
 overflow_mul-result c =
-    let f : SFits w64 c.args.a.0 = search rules in
-    let k : to_z w64 c.args.n ≡ pos c.args.n = to_z_pos w64 c.args.n (omega (arith, c.requires.few)) in
-    rw (k, to_z-of_z w64 _ f) (times_fits c.args.n c.args.a.0 c.requires.few (low_small c.args.a c.requires.bounded))
-
-pub overflow_mul-result-2 : goal.overflow_mul-result-2
-overflow_mul-result-2 c =
-    let f : SFits w64 c.args.a.1 = search rules in
-    let k : to_z w64 c.args.n ≡ pos c.args.n = to_z_pos w64 c.args.n (omega (arith, c.requires.few)) in
-    rw (k, to_z-of_z w64 _ f) (times_fits c.args.n c.args.a.1 c.requires.few (high_small c.args.a c.requires.bounded))
+    let n : to_z w64 c.args.n ≡ pos c.args.n = to_z_pos w64 c.args.n (omega (arith, c.requires.few)) in
+    let l : SFits w64 c.args.a.range.lo = search rules in
+    rw (n, to_z-of_z w64 c.args.a.range.lo l) (fits c.args.n c.args.a.range.lo c.requires.few (omega (arith, ints)))
 
 pub returns : goal.returns
 returns c =
-    let f0 : SFits w64 c.args.a.0 = search rules in
-    let f1 : SFits w64 c.args.a.1 = search rules in
-    let k : to_z w64 c.args.n ≡ pos c.args.n = to_z_pos w64 c.args.n (omega (arith, c.requires.few)) in
-    let t0 = times_fits c.args.n c.args.a.0 c.requires.few (low_small c.args.a c.requires.bounded) in
-    let t1 = times_fits c.args.n c.args.a.1 c.requires.few (high_small c.args.a c.requires.bounded) in
-    times_made c.args.n c.args.a _ _ (rw (k, to_z-of_z w64 _ f0) (to_z-of_z w64 _ t0)) (rw (k, to_z-of_z w64 _ f1) (to_z-of_z w64 _ t1))
+    let n : to_z w64 c.args.n ≡ pos c.args.n = to_z_pos w64 c.args.n (omega (arith, c.requires.few)) in
+    let low = fits c.args.n c.args.a.range.lo c.requires.few (omega (arith, ints)) in
+    let high = fits c.args.n c.args.a.range.hi c.requires.few (omega (arith, ints)) in
+    search (arith, ints, to_z-of_z, n)

@@ -1,17 +1,10 @@
-use Rattle.std.proofs.Common.{◌≡◌, ℕ, ◌+◌, ◌*◌, ◌≤◌, min, get_or, drop, sym, ap, ◌∙◌, mul-one, arith, rules}
-use native.Mathlib.Nat.{min-eq_left, min-le_right}
-use Rattle.std.proofs.lemmas.Nat.{mul-le}
-use Rattle.std.proofs.lemmas.List.{at_drop_more, at_drop_all}
+use Rattle.std.proofs.Common.{◌≡◌, ℕ, ◌+◌, ◌*◌, min, get_or, drop, sym, ap, ◌∙◌, arith}
+use native.Mathlib.Nat.{min-le_right}
+use Rattle.std.proofs.lemmas.List.{at_drop_more}
 use Rattle.coverage.specs.declared.axis.Axis.TheVariants.{X}
 use Rattle.coverage.specs.Axes.{cells_over, extents, size_of}
 use Rattle.coverage.proofs.Caps.{cap_turn}
 use Rattle.coverage.proofs.domain.Domain.cells_over.Goals as goal
-
-pub overflow_mul-n : goal.overflow_mul-n
-overflow_mul-n c =
-    let p : c.places.result ≤ 65537 = omega (arith, min-le_right (size_of c.on.result) 65537) in
-    let m = mul-le c.loop-axis.n c.places.result 65537 65537 c.loop-axis.invariant.1 p in
-    search rules
 
 pub loop-axis-preserved : goal.loop-axis-preserved
 loop-axis-preserved c =
@@ -26,11 +19,3 @@ loop-axis-preserved c =
     ap (λ m. min (m * rest) 65537) new ∙ cap_turn 65537 n (size_of (d (get_or list i X))) rest in
     let F : _ → ℕ = λ l. cells_over l d in
     (now-is ∙ (sym (ap (λ m. min (n * m) 65537) (at_drop_more F list i X c.loop-axis-test.true)) ∙ c.loop-axis.invariant.0), omega (arith, c.min-n.ensures, min-le_right (n * c.places.result) 65537))
-
-pub returns : goal.returns
-returns c =
-    let n = c.loop-axis.n in
-    let d = extents c.args.self in
-    let list = c.args.axes.now in
-    let F : _ → ℕ = λ l. cells_over l d in
-    sym (min-eq_left c.loop-axis.invariant.1) ∙ (ap (λ m. min m 65537) (sym (mul-one n)) ∙ (sym (ap (λ m. min (n * m) 65537) (at_drop_all F list c.loop-axis.axis-index c.loop-axis-test.false)) ∙ c.loop-axis.invariant.0))

@@ -2,11 +2,8 @@ use Rattle.std.proofs.Common.{◌≡◌, ◌+◌, ◌*◌, min, get_or, sym, ap,
 use native.Mathlib.Nat.{min-eq_left}
 use Rattle.coverage.specs.declared.axis.Axis.TheVariants.{X}
 use Rattle.coverage.specs.Axes.{coordinates, extents, size_of, step_of}
-use Rattle.coverage.proofs.Turns.{Counted, room, counts_on, counted}
+use Rattle.coverage.proofs.Turns.{Counted, room, counts_on}
 use Rattle.coverage.proofs.domain.Domain.number_over.Goals as goal
-
-pub loop-axis-init : goal.loop-axis-init
-loop-axis-init c = record { number = omega arith; cells = omega arith; below = omega arith }
 
 pub step-requires : goal.step-requires
 step-requires c =
@@ -64,8 +61,3 @@ loop-axis-preserved c =
     let w : size_of (d a) ≡ c.places-stride.result = sym (c.places-stride.ensures ∙ (ap (λ x. min (size_of x) 65537) c.on.ensures ∙ min-eq_left (omega (arith, r.0)))) in
     subst (λ s. Counted list d p (i + 1) (c.loop-axis.n + c.loop-axis.stride * s) (c.loop-axis.stride * c.places-stride.result)) (sym c.step.ensures)
     (subst (λ w. Counted list d p (i + 1) (c.loop-axis.n + c.loop-axis.stride * step_of (d a) (p a)) (c.loop-axis.stride * w)) w k)
-
-pub returns : goal.returns
-returns c =
-    let k = counted c.args.axes.now (extents c.args.self) (coordinates c.args.p) c.loop-axis.axis-index c.loop-axis.n c.loop-axis.stride c.loop-axis-test.false c.loop-axis.invariant in
-    record { number = k.0; below = k.1 }

@@ -1,6 +1,5 @@
 use Rattle.std.proofs.Common.{◌≡◌, ℕ, ◌+◌, ◌/◌, ◌%◌, ◌<◌, min, List, get_or, drop, ℤ, sym, ap, ◌∙◌, arith, rules}
 use native.Mathlib.Nat.{min-eq_left}
-use Rattle.std.proofs.lemmas.Nat.{mod_below}
 use Rattle.std.proofs.lemmas.List.{at_drop_all}
 use Rattle.coverage.specs.declared.axis.Axis.{Axis}
 use Rattle.coverage.specs.declared.axis.Axis.TheVariants.{X}
@@ -8,29 +7,9 @@ use Rattle.coverage.specs.Axes.{coord_of, coordinates, extents, point_over, put,
 use Rattle.coverage.proofs.Turns.{point_turn}
 use Rattle.coverage.proofs.domain.Domain.point_over.Goals as goal
 
-pub raised-p-requires : goal.raised-p-requires
-raised-p-requires c =
-    let d = extents c.args.self in
-    let a = get_or c.args.axes.now c.loop-axis.axis-index X in
-    let s = c.requires.sized a in
-    let w : c.places-size.result ≡ size_of (d a) = c.places-size.ensures ∙ (ap (λ x. min (size_of x) 65537) c.on.ensures ∙ min-eq_left (omega (arith, s.1))) in
-    record { below = rw w (mod_below c.loop-axis.n (size_of (d a)) s.0); few = s.1 }
-
 -- the divisor is not 0
 places_some : (s k : ℕ) → 0 < s → k ≡ min s 65537 → 0 < k
 places_some s k h e = search (rules, e)
-
-pub nonzero_rem-n : goal.nonzero_rem-n
-nonzero_rem-n c =
-    let a = get_or c.args.axes.now c.loop-axis.axis-index X in
-    let k = places_some (size_of (extents c.args.self a)) c.places-size.result (c.requires.sized a).0 (c.places-size.ensures ∙ ap (λ x. min (size_of x) 65537) c.on.ensures) in
-    search rules
-
-pub nonzero_div-n : goal.nonzero_div-n
-nonzero_div-n c =
-    let a = get_or c.args.axes.now c.loop-axis.axis-index X in
-    let k = places_some (size_of (extents c.args.self a)) c.places-size.result (c.requires.sized a).0 (c.places-size.ensures ∙ ap (λ x. min (size_of x) 65537) c.on.ensures) in
-    search rules
 
 pub loop-axis-preserved : goal.loop-axis-preserved
 loop-axis-preserved c =
