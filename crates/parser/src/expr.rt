@@ -78,7 +78,6 @@ impl Parser<'_, '_> {
     // What follows the word `condense`, which stands at `place`.
     #[cycle(expression)]
     fn condense(&mut self, place: usize) -> Result<Done, usize>
-        requires { self.old.count < self.old.from.at }
         ensures keeps { Keeps self.old self.new }
         ensures read { Parsed (sign_item place ∷ []) [] self.old self.new result }
     {
@@ -102,7 +101,6 @@ impl Parser<'_, '_> {
     // What follows the word `coverage`, which stands at `place`. The form's own word has no effect.
     #[cycle(expression)]
     fn form(&mut self, place: usize) -> Result<Done, usize>
-        requires { self.old.count < self.old.from.at }
         ensures keeps { Keeps self.old self.new }
         ensures read { Parsed (any_word ∷ iterating2 (covering place) []) [] self.old self.new result }
     {
