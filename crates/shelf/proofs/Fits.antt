@@ -1,5 +1,5 @@
 -- Cells that all fit a kind, one by one.
-use Rattle.std.proofs.Common.{◌≡◌, ℕ, ◌<◌, Bool, true, false, cond, ◌&&◌, eqb, ltb, List, length, get_or, ℤ, pos, Some, None, Option, refl, arith, ltb-true, eqb-true}
+use Rattle.std.proofs.Common.{◌≡◌, ℕ, ◌<◌, true, ◌&&◌, eqb, ltb, List, length, get_or, ℤ, pos, None, ltb-true, eqb-true}
 use Rattle.std.proofs.lemmas.List.Elements.{All-get_or}
 use Rattle.std.proofs.lemmas.List.Sums.{AllPass-from_list_all}
 use Rattle.coverage.specs.declared.kind.Kind.{Kind}
@@ -8,9 +8,9 @@ use Rattle.coverage.specs.Axes.{extents}
 use Rattle.coverage.specs.Kinds.{fits}
 use Rattle.coverage.specs.Strips.{row_width, strips}
 use Rattle.coverage.proofs.Bools.{and_left, and_right}
-use Rattle.shelf.specs.declared.fault.ShelfFault.{ShelfFault}
 use Rattle.shelf.specs.declared.fault.ShelfFault.TheVariants.{Fixed, NoStrip, Unfit}
 use Rattle.shelf.specs.Meaning.{all_fit, shape_fault}
+use Rattle.shelf.proofs.Answering.{cond_none}
 
 pub fit_each : (k : Kind) (xs : List ℤ) → all_fit k xs ≡ true → (i : ℕ) → i < length xs → fits k (get_or xs i (pos 0)) ≡ true
 fit_each k xs e i h = All-get_or (λ v. fits k v ≡ true) xs i (pos 0) h (AllPass-from_list_all (fits k) xs e)
@@ -20,10 +20,6 @@ pub record Fitting (a : Description) (n : ℕ) (cs : List ℤ) : Type 0 where
   pub below : n < strips (extents a.domain)
   pub wide : length cs ≡ row_width (extents a.domain)
   pub fit : all_fit a.kind cs ≡ true
-
-cond_none : (b : Bool) (x : Option ShelfFault) (f : ShelfFault) → cond b x (Some f) ≡ None → (b ≡ true) × (x ≡ None)
-cond_none true x f e = (refl, e)
-cond_none false x f e = absurd (let z : ◌≡◌ {A = ℕ} 0 1 = cc in omega arith)
 
 pub shape_fits : (a : Description) (c n : ℕ) (cs : List ℤ) → shape_fault a c n cs ≡ None → Fitting a n cs
 shape_fits a c n cs e =

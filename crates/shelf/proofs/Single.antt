@@ -7,11 +7,11 @@ use Rattle.shelf.specs.Laws.{Lawful, LawfulCoverage}
 
 one_nth : (k : Coverage) (c : ℕ) (m : Coverage) → slice_get (k ∷ []) c ≡ Some m → k ≡ m
 one_nth k zero m e = cc
-one_nth k (suc c) m e = absurd (let z : ◌≡◌ {A = ℕ} 0 1 = cc in omega arith)
+one_nth k (suc c) m e = cc
 
 none_nth : (c : ℕ) (m : Coverage) → slice_get [] c ≡ Some m → ⊥
-none_nth zero m e = let z : ◌≡◌ {A = ℕ} 0 1 = cc in omega arith
-none_nth (suc c) m e = let z : ◌≡◌ {A = ℕ} 0 1 = cc in omega arith
+none_nth zero m e = cc
+none_nth (suc c) m e = cc
 
 pub one_lawful : (k : Coverage) → LawfulCoverage k → Lawful (k ∷ [])
 one_lawful k l = record { at_most_eight = omega arith; each = λ c m e. subst LawfulCoverage (one_nth k c m e) l }

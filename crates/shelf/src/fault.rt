@@ -7,6 +7,7 @@ use std::error::Error;
 use std::fmt;
 
 /// Why a call of a shelf is refused: the coverage and the strip that the call named, 0 where it names no strip.
+// They stay two fields: the traits' calls take them apart, and a struct would be made at each fault.
 #[derive(Clone, Copy, Debug, PartialEq, Eq)]
 pub enum ShelfFault {
     NoCoverage { coverage: usize, strip: usize },

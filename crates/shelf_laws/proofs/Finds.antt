@@ -64,7 +64,7 @@ find_append (x ∷ xs) ys nm =
 
 -- what is found is on the list
 pub find_lt : (xs : List Coverage) (nm : List ℕ) (j : ℕ) → find_answer xs nm ≡ Some j → j < length xs
-find_lt [] nm j e = absurd (let z : ◌≡◌ {A = ℕ} 0 1 = cc in omega arith)
+find_lt [] nm j e = cc
 find_lt (x ∷ xs) nm j e =
     let S : ℕ → Option ℕ = λ i. Some i in
     by_test (bytes_eq (name_bytes x.about.name) nm)
@@ -72,7 +72,7 @@ find_lt (x ∷ xs) nm j e =
     (λ t. lower (find_answer xs nm) (λ i f. find_lt xs nm i f) refl (sym (ap (λ b. cond b (S 0) (raised (find_answer xs nm))) t) ∙ e))
   where
     lower : (o : Option ℕ) → ((i : ℕ) → find_answer xs nm ≡ Some i → i < length xs) → find_answer xs nm ≡ o → raised o ≡ Some j → j < suc (length xs)
-    lower None r f g = absurd (let z : ◌≡◌ {A = ℕ} 0 1 = cc in omega arith)
+    lower None r f g = cc
     lower (Some i) r f g = let h = r i f in let z : suc i ≡ j = cc in omega arith
 
 -- the lowest number with a name in a join

@@ -1,5 +1,5 @@
 -- The calls before a making, and what an allowed making may rely on.
-use Rattle.std.proofs.Common.{◌≡◌, ℕ, Bool, true, false, cond, ◌&&◌, eqb, List, Some, None, Ok, Err, Option, Result, sym, refl, ap, ◌∙◌, subst, arith, eqb-true}
+use Rattle.std.proofs.Common.{◌≡◌, ℕ, Bool, true, false, cond, ◌&&◌, eqb, List, Some, None, Ok, Err, Option, Result, refl, ap, ◌∙◌, subst, eqb-true}
 use borrow.Author.Tests.{clash}
 use Rattle.std.specs.Option.{option_map_or}
 use Rattle.std.specs.Result.{is_ok, result_ok, MatchResult}
@@ -11,11 +11,9 @@ use Rattle.coverage.proofs.Bools.{and_left, and_right, and_both}
 use Rattle.shelf.specs.declared.fault.MakingFault.{MakingFault}
 use Rattle.shelf.specs.declared.fault.MakingFault.TheVariants.{NoName, OutOfBounds, WideSpan, ManyCells, WrongLength}
 use Rattle.shelf.specs.Meaning.{answer_of}
+use Rattle.shelf.proofs.Answering.{cond_none}
 use Rattle.shelf_laws.specs.Making.{grid_fault}
 use Rattle.shelf_laws.specs.Single.{AskedFor, Described}
-
-pub none_some : {X : Type 0} {x : X} → None ≡ Some x → ⊥
-none_some e = let z : ◌≡◌ {A = ℕ} 0 1 = cc in omega arith
 
 -- the call before a making answers the fault, if any
 pub answer_by : {X : Type 0} (P : X → Type 0) (f : Option MakingFault) (r : Result X MakingFault) (s : Result (Unit {0}) MakingFault) →
@@ -29,8 +27,8 @@ answer_by P (Some f) r s ok err v m = subst (λ x. MatchResult x P (λ e. s ≡ 
 
 pub described_answer : (P : Description → Type 0) (f : Option MakingFault) (name : List ℕ) (d : Domain) (k : Kind) (receives : Bool) (r : Result Description MakingFault) (s : Result (Unit {0}) MakingFault) →
     Described f name d k receives r → is_ok s ≡ is_ok r → MatchResult r P (λ e. s ≡ Err e) → s ≡ answer_of f
-described_answer P None name d k receives r s h v m = answer_by P None r s (λ _. ap is_ok h.1) (λ g e. absurd (none_some e)) v m
-described_answer P (Some f) name d k receives r s h v m = answer_by P (Some f) r s (λ e. absurd (none_some (sym e))) (λ g e. let same : f ≡ g = cc in h ∙ (let err : MakingFault → Result Description MakingFault = λ x. Err x in ap err same)) v m
+described_answer P None name d k receives r s h v m = answer_by P None r s (λ _. ap is_ok h.1) (λ g e. cc) v m
+described_answer P (Some f) name d k receives r s h v m = answer_by P (Some f) r s (λ e. cc) (λ g e. let same : f ≡ g = cc in h ∙ (let err : MakingFault → Result Description MakingFault = λ x. Err x in ap err same)) v m
 
 -- what is described passes a test that each description passes which is asked for and allowed
 pub described_passes : (test : Description → Bool) (f : Option MakingFault) (name : List ℕ) (d : Domain) (k : Kind) (receives : Bool) (r : Result Description MakingFault) →
@@ -46,10 +44,6 @@ counted_err false n g e = (refl, cc)
 pub counted_ok : (b : Bool) (n m : ℕ) → ◌≡◌ {A = Result ℕ MakingFault} (Ok m) (cond b (Ok n) (Err ManyCells)) → b ≡ true
 counted_ok true n m e = refl
 counted_ok false n m e = cc
-
-pub cond_none : (b : Bool) (x : Option MakingFault) (f : MakingFault) → cond b x (Some f) ≡ None → (b ≡ true) × (x ≡ None)
-cond_none true x f e = (refl, e)
-cond_none false x f e = absurd (let z : ◌≡◌ {A = ℕ} 0 1 = cc in omega arith)
 
 -- what holds of an allowed grid
 pub record Allowed (name : List ℕ) (d : Extents) (k : Kind) (length : ℕ) : Type 0 where

@@ -24,8 +24,9 @@ use Rattle.shelf_laws.specs.Single.{AskedFor, CellsOf, MadeFixed, fixed_ok}
 use Rattle.shelf_laws.specs.declared.ramp.Plane.{Plane}
 use Rattle.shelf_laws.specs.RampMaking.{DescribedRamp}
 use Rattle.shelf_laws.specs.Ramp.{AtCorner, AtEnd, Gradient, Slopes, gradient, SpanIsExact, all_mild, is_mild, is_near, least, most, ramp_cells, ramp_fault, ramp_kind, ramp_keeps, ramp_meaning, ramp_span, ramp_value, rise, rise_at, rises, sum_over}
+use Rattle.shelf.proofs.Answering.{cond_none}
 use Rattle.shelf_laws.proofs.Products.{Small, fits_64, mul_between, mul_small}
-use Rattle.shelf_laws.proofs.Makings.{Allowed, allowed_describable, answer_by, cond_none, none_some}
+use Rattle.shelf_laws.proofs.Makings.{Allowed, allowed_describable, answer_by}
 use Rattle.shelf_laws.proofs.Singles.{fixed_by, fixed_lawful}
 
 -- ---- small numbers
@@ -302,9 +303,9 @@ ramp_described name d s offset a p e asked u v = subst (λ f. DescribedRamp f na
 
 pub ramp_answer : (P : Description × Plane → Type 0) (f : Option MakingFault) (name : List ℕ) (d : Domain) (s : Slopes) (offset : ℤ) (r : Result (Description × Plane) MakingFault) (t : Result (Unit {0}) MakingFault) →
     DescribedRamp f name d s offset r → is_ok t ≡ is_ok r → MatchResult r P (λ e. t ≡ Err e) → t ≡ answer_of f
-ramp_answer P None name d s offset r t h v m = answer_by P None r t (λ _. ap is_ok h.2) (λ g e. absurd (none_some e)) v m
+ramp_answer P None name d s offset r t h v m = answer_by P None r t (λ _. ap is_ok h.2) (λ g e. cc) v m
 ramp_answer P (Some f) name d s offset r t h v m =
-    answer_by P (Some f) r t (λ e. absurd (none_some (sym e))) (λ g e. let same : f ≡ g = cc in h ∙ (let err : MakingFault → Result (Description × Plane) MakingFault = λ x. Err x in ap err same)) v m
+    answer_by P (Some f) r t (λ e. cc) (λ g e. let same : f ≡ g = cc in h ∙ (let err : MakingFault → Result (Description × Plane) MakingFault = λ x. Err x in ap err same)) v m
 
 ok_same : (x y : Description × Plane) → ◌≡◌ {A = Result (Description × Plane) MakingFault} (Ok x) (Ok y) → x ≡ y
 ok_same x y e = cc

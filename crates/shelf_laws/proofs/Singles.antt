@@ -1,5 +1,5 @@
 -- A shelf of one coverage or none: its calls by the description, the laws of a fixed one, and its making.
-use Rattle.std.proofs.Common.{◌≡◌, ℕ, zero, suc, Bool, true, false, cond, List, [], ◌∷◌, ℤ, Some, None, Ok, Err, Option, Result, sym, refl, ap, ◌∙◌, subst, arith}
+use Rattle.std.proofs.Common.{◌≡◌, ℕ, zero, suc, Bool, true, false, cond, List, [], ◌∷◌, ℤ, Some, None, Ok, Err, Option, Result, sym, refl, ap, ◌∙◌, subst}
 use Rattle.std.specs.Option.{option_map_or}
 use Rattle.std.specs.Result.{result_ok}
 use borrow.Author.Tests.{clash, not-true}
@@ -44,7 +44,7 @@ look_reached (Some a) cell (suc c) p = refl
 
 -- a look that reaches a coverage has its point inside it
 pub reached_in_lem : (o : Option Description) (c : ℕ) (p : Coordinates) (a : Description) → reached o c p ≡ Ok a → (o ≡ Some a) × (inside_b (extents a.domain) p ≡ true)
-reached_in_lem None c p a e = absurd (let z : ◌≡◌ {A = ℕ} 0 1 = cc in omega arith)
+reached_in_lem None c p a e = cc
 reached_in_lem (Some b) zero p a e =
     let d = extents b.domain in
     let there : Result Description ShelfFault = Ok b in
@@ -56,8 +56,8 @@ reached_in_lem (Some b) zero p a e =
     (ap some same, subst (λ (x : Description). inside_b (extents x.domain) p ≡ true) same t))
     (λ t.
     let q : ◌≡◌ {A = Result Description ShelfFault} (Err (Outside 0)) (Ok a) = sym (ap (λ x. cond x there (Err (Outside 0))) t) ∙ e in
-    absurd (let z : ◌≡◌ {A = ℕ} 0 1 = cc in omega arith))
-reached_in_lem (Some b) (suc c) p a e = absurd (let z : ◌≡◌ {A = ℕ} 0 1 = cc in omega arith)
+    cc)
+reached_in_lem (Some b) (suc c) p a e = cc
 
 fixed_fault_lem : (o : Option Description) (cell : CellsOf) (c n : ℕ) (row : List ℤ) → ((a : Description) → o ≡ Some a → a.receives ≡ false) → strip_fault (single o cell) c n row ≡ Some (fixed_fault o c n)
 fixed_fault_lem None cell zero n row h = refl

@@ -1,5 +1,5 @@
 -- The calls of a window, by the view that its code works with.
-use Rattle.std.proofs.Common.{◌≡◌, ℕ, ◌<◌, ◌≤◌, Bool, true, false, cond, List, [], ◌∷◌, length, ℤ, Some, None, Ok, Err, Option, Result, sym, ap, ◌∙◌, subst, ap₂, arith}
+use Rattle.std.proofs.Common.{◌≡◌, ℕ, ◌<◌, ◌≤◌, Bool, true, false, cond, List, [], ◌∷◌, length, ℤ, Some, None, Ok, Err, Option, Result, sym, ap, ◌∙◌, subst, ap₂}
 use Rattle.std.specs.List.{slice_get}
 use Rattle.std.specs.Str.{bytes_eq}
 use Rattle.coverage.specs.declared.axis.Axis.{Axis}
@@ -27,7 +27,7 @@ use Rattle.shelf_laws.proofs.WindowCalls.{Viewed, fault_fixed, fault_no_strip, l
 -- a described coverage is seen where the cut fits
 pub view_by : (o : Option Coverage) (c : ℕ) (cut : Cut) (a : Description) (b : Bool) → Ok a ≡ described o c → cut_fits (extents a.domain) cut ≡ b →
     view_on o c cut ≡ cond b (Ok (record { whole = a.domain; about = cut_about a cut })) (Err OutOfBounds)
-view_by None c cut a b e f = absurd (let z : ◌≡◌ {A = ℕ} 0 1 = cc in omega arith)
+view_by None c cut a b e f = cc
 view_by (Some k) c cut a b e f =
     let same : k.about ≡ a = cc in
     let make : Description → View = λ x. record { whole = x.domain; about = cut_about x cut } in

@@ -18,7 +18,7 @@ use Rattle.shelf.proofs.Single.{refused_is}
 use Rattle.shelf_laws.specs.declared.cut.Cut.{Cut}
 use Rattle.shelf_laws.specs.declared.cut.View.{View}
 use Rattle.shelf_laws.specs.Window.{cut_fits, fault_on, seen, seen_on, seen_under, strip_below, view_on, window_meaning}
-use Rattle.shelf_laws.proofs.Makings.{answer_by, none_some}
+use Rattle.shelf_laws.proofs.Makings.{answer_by}
 use Rattle.shelf_laws.proofs.Windows.{seen_below, seen_cell, seen_inside, seen_put, seen_there, x_uncut}
 
 -- ---- what a view tells
@@ -34,10 +34,10 @@ pub record Viewed (m : List Coverage) (c : ℕ) (cut : Cut) (v : View) : Type 0 
 viewed_if : (m : List Coverage) (c : ℕ) (cut : Cut) (v : View) (k : Coverage) → slice_get m c ≡ Some k → (b : Bool) → cut_fits (domain_of k) cut ≡ b →
     Ok v ≡ cond b (Ok (record { whole = k.about.domain; about = (seen k cut).about })) (Err OutOfBounds) → Viewed m c cut v
 viewed_if m c cut v k e true f h = record { below = k; there = e; fits = f; whole = cc; about = cc }
-viewed_if m c cut v k e false f h = absurd (let z : ◌≡◌ {A = ℕ} 0 1 = cc in omega arith)
+viewed_if m c cut v k e false f h = cc
 
 viewed_on : (m : List Coverage) (c : ℕ) (cut : Cut) (v : View) (o : Option Coverage) → slice_get m c ≡ o → Ok v ≡ view_on o c cut → Viewed m c cut v
-viewed_on m c cut v None e h = absurd (let z : ◌≡◌ {A = ℕ} 0 1 = cc in omega arith)
+viewed_on m c cut v None e h = cc
 viewed_on m c cut v (Some k) e h = viewed_if m c cut v k e (cut_fits (domain_of k) cut) refl h
 
 pub viewed : (m : List Coverage) (c : ℕ) (cut : Cut) (v : View) → Ok v ≡ view_on (slice_get m c) c cut → Viewed m c cut v
@@ -45,7 +45,7 @@ viewed m c cut v h = viewed_on m c cut v (slice_get m c) refl h
 
 -- where none is shown the window has no coverage
 hidden_if : (k : Coverage) (cut : Cut) (f : MakingFault) (v : View) (b : Bool) → cut_fits (domain_of k) cut ≡ b → Err f ≡ cond b (Ok v) (Err OutOfBounds) → cond (cut_fits (domain_of k) cut) (seen k cut ∷ []) [] ≡ []
-hidden_if k cut f v true e h = absurd (let z : ◌≡◌ {A = ℕ} 0 1 = cc in omega arith)
+hidden_if k cut f v true e h = cc
 hidden_if k cut f v false e h = ap (λ b. cond b (seen k cut ∷ []) []) e
 
 hidden_on : (o : Option Coverage) (c : ℕ) (cut : Cut) (f : MakingFault) → Err f ≡ view_on o c cut → seen_on o cut ≡ []
@@ -106,8 +106,8 @@ module _ (m : List Coverage) (c : ℕ) (cut : Cut) (k : Coverage) (there : slice
       ∙ ap (λ w. told_fault (tested r w (row_fits k cs) (strip_there k s) c s) 0 n) (lt-ltb s (strips (domain_of k)) (seen_below k cut law fit n h))))))
 
   nth_edited : (xs : List Coverage) (i : ℕ) (x : Coverage) (f : Coverage → Coverage) → slice_get xs i ≡ Some x → slice_get (edited xs i f) i ≡ Some (f x)
-  nth_edited [] zero x f e = absurd (let z : ◌≡◌ {A = ℕ} 0 1 = cc in omega arith)
-  nth_edited [] (suc i) x f e = absurd (let z : ◌≡◌ {A = ℕ} 0 1 = cc in omega arith)
+  nth_edited [] zero x f e = cc
+  nth_edited [] (suc i) x f e = cc
   nth_edited (y ∷ ys) zero x f e = let q : y ≡ x = cc in let some : Coverage → Option Coverage = λ v. Some v in ap (λ v. some (f v)) q
   nth_edited (y ∷ ys) (suc i) x f e = nth_edited ys i x f e
 
@@ -214,5 +214,5 @@ window_answer P None c cut r s e v m = subst (λ x. MatchResult x P (λ f. s ≡
 window_answer P (Some k) c cut r s e v m = go (cut_fits (domain_of k) cut) (v ∙ ap is_ok e) (subst (λ x. MatchResult x P (λ f. s ≡ Err f)) e m)
   where
     go : (b : Bool) → is_ok s ≡ is_ok (cond b (view_of k cut) (Err OutOfBounds)) → MatchResult (cond b (view_of k cut) (Err OutOfBounds)) P (λ e. s ≡ Err e) → s ≡ answer_of (cond b None (Some OutOfBounds))
-    go true v m = answer_by P None (view_of k cut) s (λ _. refl) (λ g e. absurd (none_some e)) v m
+    go true v m = answer_by P None (view_of k cut) s (λ _. refl) (λ g e. cc) v m
     go false v m = m
