@@ -43,16 +43,16 @@ climbs act (suc k) n s st t p o j e h f = climb_step act k n s st t p o j e h f 
 
 -- what `between` finds
 pub found_between : (n m : ℕ) (x : Option Operator) (o : Operator) → between n m x ≡ Some o → (x ≡ Some o) × (n ≤ o.level) × (o.level < m)
-found_between n m None o e = let z : ◌≡◌ {A = ℕ} 0 1 = cc in absurd (omega arith)
+found_between n m None o e = cc
 found_between n m (Some u) o e = cases (ltb u.level n) (ltb u.level m) refl refl
   where
     cases : (a b : Bool) → ltb u.level n ≡ a → ltb u.level m ≡ b → (Some u ≡ Some o) × (n ≤ o.level) × (o.level < m)
-    cases true b q r = let f : None ≡ Some o = sym (λ i. cond (q i) None (cond (ltb u.level m) (Some u) None)) ∙ e in let z : ◌≡◌ {A = ℕ} 0 1 = cc in absurd (omega arith)
+    cases true b q r = let f : None ≡ Some o = sym (λ i. cond (q i) None (cond (ltb u.level m) (Some u) None)) ∙ e in cc
     cases false true q r =
         let f : Some u ≡ Some o = sym (λ i. cond (q i) None (cond (r i) (Some u) None)) ∙ e in
         let w : u ≡ o = cc in
         (f, subst (λ (v : Operator). n ≤ v.level) w (ltb-false u.level n q), subst (λ (v : Operator). v.level < m) w (ltb-true u.level m r))
-    cases false false q r = let f : None ≡ Some o = sym (λ i. cond (q i) None (cond (r i) (Some u) None)) ∙ e in let z : ◌≡◌ {A = ℕ} 0 1 = cc in absurd (omega arith)
+    cases false false q r = let f : None ≡ Some o = sym (λ i. cond (q i) None (cond (r i) (Some u) None)) ∙ e in cc
 
 pub none_between : (n m : ℕ) (x : Option Operator) → between n m x ≡ None → (l : ℕ) → n ≤ l → l < m → of_level l x ≡ None
 none_between n m None e l a b = refl
@@ -64,5 +64,5 @@ none_between n m (Some u) e l a b = cases (eqb u.level l) refl
         let x : ltb u.level n ≡ false = le-ltb u.level n (omega arith) in
         let y : ltb u.level m ≡ true = lt-ltb u.level m (omega arith) in
         let f : Some u ≡ None = sym (λ i. cond (x i) None (cond (y i) (Some u) None)) ∙ e in
-        let z : ◌≡◌ {A = ℕ} 0 1 = cc in absurd (omega arith)
+        cc
     cases false q = λ i. cond (q i) (Some u.binary) None

@@ -1,9 +1,10 @@
 -- No expression reads past a numeral that a colon follows, with or without a minus before it.
-use Rattle.std.proofs.Common.{◌≡◌, ℕ, Bool, true, false, List, ◌∷◌, Some, None, Option, sym, refl, ap, ◌∙◌, subst, arith}
+use Rattle.std.proofs.Common.{◌≡◌, ℕ, Bool, true, false, List, ◌∷◌, Some, None, Option, sym, refl, ap, ◌∙◌, subst}
 use Rattle.syntax.specs.declared.Unary.TheVariants as unary
 use Rattle.syntax.specs.declared.Binary.{Binary}
 use Rattle.parser.specs.declared.roles.Function.{Function}
 use Rattle.std.proofs.lemmas.Bool.{true≢false}
+use Rattle.std.proofs.lemmas.Option.{none-some}
 use Rattle.lexer.specs.declared.symbol.Symbol.{Symbol}
 use Rattle.lexer.specs.declared.symbol.Symbol.TheVariants as the
 use Rattle.lexer.specs.Tokens.{Tok, numeral, symbol}
@@ -16,7 +17,7 @@ use Rattle.parser.specs.Yields.{Yield}
 use Rattle.parser.specs.Grammar as gr
 use Rattle.parser.specs.Grammar.{Is, Numeral, Opens, Sort, Gets}
 use Rattle.parser.proofs.See.{number_is, symbol_is}
-use Rattle.parser.proofs.Tokens.{none_some, unlike, joined_at, two_symbols}
+use Rattle.parser.proofs.Tokens.{unlike, joined_at, two_symbols}
 
 pub first : (t u : Placed) (ts us : List Placed) → t ∷ ts ≡ u ∷ us → t ≡ u
 first t u ts us e = cc
@@ -32,7 +33,7 @@ num_symbol : (x : Symbol) (t u : Placed) (n : ℕ) → t ≡ u → Is x t → Nu
 num_symbol x t u n e i j = unlike number_of x t.0 n (subst (Numeral n) (sym e) j) refl i
 
 num_word : {A : Type 0} (f : Tok → Option A) (t u : Placed) (a : A) (n : ℕ) → ((m : ℕ) → f (numeral m) ≡ None) → t ≡ u → f t.0 ≡ Some a → Numeral n u → ⊥
-num_word f t u a n h e i j = none_some a (sym (h n) ∙ ap f (sym (number_is t.0 n (subst (Numeral n) (sym e) j))) ∙ i)
+num_word f t u a n h e i j = none-some a (sym (h n) ∙ ap f (sym (number_is t.0 n (subst (Numeral n) (sym e) j))) ∙ i)
 
 num_opens : (o : Opening) (t u : Placed) (n : ℕ) → t ≡ u → Opens o t → Numeral n u → ⊥
 num_opens o t u n e i j = num_word opening_of t u o n (λ _. refl) e i j
@@ -81,13 +82,13 @@ minus_opens : (o : Opening) (t u : Placed) → t ≡ u → Opens o t → (Some (
 minus_opens o t u e i h j = h (ap opening_of (sym (symbol_is the.Minus t.0 (subst (Is the.Minus) (sym e) j))) ∙ i)
 
 truth_minus : (b : Bool) → Some (opens.Prefix unary.Minus) ≡ Some (opens.Truth b) → ⊥
-truth_minus b e = let z : ◌≡◌ {A = ℕ} 0 1 = cc in omega arith
+truth_minus b e = cc
 
 round_minus : Some (opens.Prefix unary.Minus) ≡ Some opens.Round → ⊥
-round_minus e = let z : ◌≡◌ {A = ℕ} 0 1 = cc in omega arith
+round_minus e = cc
 
 function_minus : {f : Function} → Some (opens.Prefix unary.Minus) ≡ Some (opens.Function f) → ⊥
-function_minus e = let z : ◌≡◌ {A = ℕ} 0 1 = cc in omega arith
+function_minus e = cc
 
 pub minus_left : {x : Sort} {y : Yield} {ts us : List Placed} → Gets x y ts us → (k : Placed) (n : ℕ) (t c : Placed) (r : List Placed) → ts ≡ k ∷ t ∷ c ∷ r → Is the.Minus k → Numeral n t → Is the.Colon c → us ≡ c ∷ r
 minus_left (gr.chain g) k n t c r e h i j = minus_left g k n t c r e h i j

@@ -1,5 +1,5 @@
 -- What a text says is what the grammar derives from its tokens.
-use Rattle.std.proofs.Common.{◌≡◌, ℕ, ◌+◌, ◌<◌, ◌≤◌, Bool, true, false, cond, ◌||◌, ltb, ◌⊎◌, List, [], length, Some, None, Ok, Err, Option, Result, sym, refl, ap, ◌∙◌, subst, ap₂, inl, inr, arith, ltb-false, ltb-true, le-ltb, lt-ltb}
+use Rattle.std.proofs.Common.{◌≡◌, ℕ, ◌+◌, ◌<◌, ◌≤◌, Bool, true, false, cond, ◌||◌, ltb, ◌⊎◌, List, [], length, Some, None, Ok, Err, Option, Result, sym, refl, ap, ◌∙◌, subst, ap₂, inl, inr, ltb-false, ltb-true, le-ltb, lt-ltb}
 use Rattle.syntax.specs.Tree.{Binding, Expr, Query}
 use Rattle.lexer.specs.Toks.{toks, first_bad}
 use Rattle.parser.specs.declared.fault.TextFault.{TextFault}
@@ -70,7 +70,7 @@ beyond true b e = inl refl
 beyond false b e = inr e
 
 neither : (a b : Bool) → (a || b) ≡ false → (a ≡ false) × (b ≡ false)
-neither true b e = absurd (let z : ◌≡◌ {A = ℕ} 0 1 = cc in omega arith)
+neither true b e = cc
 neither false b e = (refl, e)
 
 over : (m n a b : ℕ) → (ltb m n ≡ true) ⊎ (ltb a b ≡ true) → (m < n) ⊎ (a < b)
@@ -88,7 +88,7 @@ derived_means text q depth d = go (ltb most_constructs (constructs q.body) || lt
 
 -- where reading trees is stuck, reading a table is stuck at the same place
 also_refused : (p : ℕ) (u : Verdict (List Yield)) (v : Verdict St) → u ≡ refused p → Agree u v → v ≡ refused p
-also_refused p (accepted cs ys) v e a = absurd (let z : ◌≡◌ {A = ℕ} 0 1 = cc in omega arith)
+also_refused p (accepted cs ys) v e a = cc
 also_refused p (refused n) (accepted bs st) e a = absurd a
 also_refused p (refused n) (refused q) e a = let z : n ≡ p = cc in ap (λ (k : ℕ). refused k) (sym a ∙ z)
 

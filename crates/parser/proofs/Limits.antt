@@ -29,7 +29,7 @@ other : (w : Symbol) (t u : Tok) (p q : ℕ) (ts us : List Placed) → consed t 
 other w t u p q ts us e h a true i j = end_is w u j
 other w t u p q ts us e h true false i j =
     let f : [] ≡ (u, q) ∷ us = sym (λ k. cond (i k) [] ((t, p) ∷ ts)) ∙ e ∙ (λ k. cond (j k) [] ((u, q) ∷ us)) in
-    let z : ◌≡◌ {A = ℕ} 0 1 = cc in absurd (omega arith)
+    cc
 other w t u p q ts us e h false false i j =
     let f : (t, p) ∷ ts ≡ (u, q) ∷ us = sym (λ k. cond (i k) [] ((t, p) ∷ ts)) ∙ e ∙ (λ k. cond (j k) [] ((u, q) ∷ us)) in
     ap (is w) (sym (ap (λ (x : Placed). x.0) (first (t, p) (u, q) ts us f))) ∙ h

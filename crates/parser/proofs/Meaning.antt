@@ -1,6 +1,7 @@
 -- The machine's verdict and the grammar.
 use Rattle.std.proofs.Common.{◌≡◌, ℕ, ◌≤◌, Bool, true, false, cond, ltb, ◌⊎◌, List, [], ◌∷◌, ◌++◌, length, Some, None, Ok, Err, Option, Result, sym, refl, ap, ◌∙◌, subst, inl, inr, append_assoc, arith}
 use Rattle.std.proofs.lemmas.Bool.{ltb-true, ltb-false}
+use Rattle.std.proofs.lemmas.Option.{none-some}
 use Rattle.lexer.specs.Toks.{Placed, toks, first_bad}
 use Rattle.parser.specs.declared.node.Node.{Node}
 use Rattle.parser.specs.declared.fault.TextFault.{TextFault}
@@ -14,6 +15,7 @@ use Rattle.parser.specs.Texts.{judged, outcome, reading, too_large, measured, un
 use Rattle.parser.specs.Theorem.{FirstFault, EndsEarly, Refusable, Clean, Meant, grammatical}
 use Rattle.parser.proofs.Back.{Ends, sound, admitted}
 use Rattle.parser.proofs.Viable.{Halted, Short, Stops, stops}
+use Rattle.parser.proofs.Colons.{first, rest}
 use Rattle.parser.proofs.Whole.{reach_query}
 use Rattle.parser.proofs.Control.{Agree, agree}
 
@@ -50,12 +52,6 @@ either len st ts p r (inr h) = inr (early len st ts p r h)
 
 no_fault : (ts : List Placed) (p : ℕ) → Admits ts → FirstFault ts p → ⊥
 no_fault ts p g f = f.none (f.after, subst Admits (f.split ∙ sym (append_assoc f.before (f.token ∷ []) f.after)) g)
-
-first : (t u : Placed) (ts us : List Placed) → t ∷ ts ≡ u ∷ us → t ≡ u
-first t u ts us e = cc
-
-rest : (t u : Placed) (ts us : List Placed) → t ∷ ts ≡ u ∷ us → ts ≡ us
-rest t u ts us e = cc
 
 -- the first token at which a property of fronts ends is one
 uniq : (P : List Placed → Type 0) → ((a b : List Placed) → P (a ++ b) → P a) → (b : List Placed) (t : Placed) (a : List Placed) (d : List Placed) (u : Placed) (c : List Placed) → b ++ t ∷ a ≡ d ++ u ∷ c → P b → (P (b ++ t ∷ []) → ⊥) → P d → (P (d ++ u ∷ []) → ⊥) → t ≡ u
@@ -110,7 +106,7 @@ admits_refused bs p g (inr f) = f.not_yet g
 only_of : (bs : List ℕ) (r : Result Reading TextFault) → Clean bs → Meant bs r → Admits (toks bs 0) → grammatical r ≡ true
 only_of bs (Ok q) c h g = refl
 only_of bs (Err TooLong) c h g = absurd (omega (arith, h, c.short))
-only_of bs (Err (NoToken p)) c h g = let e : None ≡ Some p = sym c.tokens ∙ h.1 in let z : ◌≡◌ {A = ℕ} 0 1 = cc in absurd (omega arith)
+only_of bs (Err (NoToken p)) c h g = absurd (none-some p (sym c.tokens ∙ h.1))
 only_of bs (Err (NoQuery p)) c h g = absurd (admits_refused bs p g h.1)
 only_of bs (Err TooLarge) c h g = refl
 
@@ -126,7 +122,7 @@ same_place bs p q (inr f) (inr g) = f.place ∙ sym g.place
 just_of : (bs : List ℕ) (r : Result Reading TextFault) (p : ℕ) → Clean bs → Meant bs r → Refusable bs p → r ≡ Err (NoQuery p)
 just_of bs (Ok q) p c h f = absurd (admits_refused bs p h.1 f)
 just_of bs (Err TooLong) p c h f = absurd (omega (arith, h, c.short))
-just_of bs (Err (NoToken q)) p c h f = let e : None ≡ Some q = sym c.tokens ∙ h.1 in let z : ◌≡◌ {A = ℕ} 0 1 = cc in absurd (omega arith)
+just_of bs (Err (NoToken q)) p c h f = absurd (none-some q (sym c.tokens ∙ h.1))
 just_of bs (Err (NoQuery q)) p c h f = ap (λ k. Err (NoQuery k)) (same_place bs q p h.1 f)
 just_of bs (Err TooLarge) p c h f = absurd (admits_refused bs p h.1 f)
 

@@ -1,6 +1,7 @@
 -- What the next token makes of a stack.
-use Rattle.std.proofs.Common.{◌≡◌, ℕ, ◌<◌, Bool, true, false, cond, List, [], ◌∷◌, length, Some, None, Option, sym, refl, ap, ◌∙◌, arith}
+use Rattle.std.proofs.Common.{◌≡◌, ℕ, ◌<◌, Bool, true, false, cond, List, [], ◌∷◌, length, Some, sym, refl, ap, ◌∙◌}
 use Rattle.std.proofs.lemmas.Bool.{false≢true}
+use Rattle.std.proofs.lemmas.Option.{none-some, same_Some}
 use Rattle.lexer.proofs.Apart as apart
 use Rattle.lexer.proofs.Apart.{same_symbol_lem}
 use Rattle.lexer.specs.contracts.token.TokenPartialEq.TheImpl.{ghosts}
@@ -74,12 +75,6 @@ level act len s st s' st' (t ∷ ts) f g = ap (onward (λ a b. verdict act len a
 pub done : {S : Type 0} (act : Action → S → S) (len : ℕ) (a : Action) (s : List Item) (st : S) (ts : List Placed) → verdict act len (acts a ∷ s) st ts ≡ verdict act len s (act a st) ts
 done act len a s st ts = level act len _ st s _ ts (λ _. refl) (λ _ _. refl)
 
-no_some : (n : ℕ) → ◌≡◌ {A = Option ℕ} None (Some n) → ⊥
-no_some n e = let z : ◌≡◌ {A = ℕ} 0 1 = cc in omega arith
-
-some_same : (m n : ℕ) → Some m ≡ Some n → m ≡ n
-some_same m n e = cc
-
 -- a symbol is not the end
 pub symbol_some : (s : Symbol) (t : Tok) → is s t ≡ true → is_end t ≡ false
 symbol_some s (word w) e = refl
@@ -109,9 +104,9 @@ symbol_is s bad e = absurd (false≢true e)
 symbol_is s end e = absurd (false≢true e)
 
 pub number_is : (t : Tok) (n : ℕ) → number_of t ≡ Some n → t ≡ numeral n
-number_is (word w) n e = absurd (no_some n e)
-number_is (variable w) n e = absurd (no_some n e)
-number_is (numeral m) n e = ap numeral (some_same m n e)
-number_is (symbol u) n e = absurd (no_some n e)
-number_is bad n e = absurd (no_some n e)
-number_is end n e = absurd (no_some n e)
+number_is (word w) n e = absurd (none-some n e)
+number_is (variable w) n e = absurd (none-some n e)
+number_is (numeral m) n e = ap numeral (same_Some m n e)
+number_is (symbol u) n e = absurd (none-some n e)
+number_is bad n e = absurd (none-some n e)
+number_is end n e = absurd (none-some n e)

@@ -51,7 +51,7 @@ found f n (variable w) a e = refl
 found f n (numeral m) a e = refl
 found f n (symbol s) a e = refl
 found f n bad a e = refl
-found f n end a e = let z : ◌≡◌ {A = ℕ} 0 1 = cc in absurd (omega arith)
+found f n end a e = cc
 
 -- from a look at the next token
 pub taking : {A R : Type 0} (f : Tok → Option A) (keep : A → ℕ → R) (old : Cursor) {l : Lexed} → f end ≡ None → Peeked old.text.now old.at l → (a : A) → f (tok l.token) ≡ Some a → Taken A R f keep old l.next (keep a l.place)

@@ -1,6 +1,7 @@
 -- Which token a reading says that it is.
 use Rattle.std.proofs.Common.{◌≡◌, ℕ, suc, ◌<◌, Bool, true, false, cond, eqb, List, [], ◌∷◌, Some, None, Option, sym, refl, ap, ◌∙◌, arith}
 use Rattle.std.proofs.lemmas.Bool.{eqb-true, false_from_ne_true, ne_eqb}
+use Rattle.std.proofs.lemmas.Option.{none-some, same_Some}
 use Rattle.syntax.specs.Tree.{Word}
 use Rattle.syntax.specs.declared.Binary.{Binary}
 use Rattle.lexer.specs.declared.symbol.Symbol.{Symbol}
@@ -12,31 +13,25 @@ use Rattle.parser.specs.Roles.{is, operator, operator_of, of_level, join_of, wor
 use Rattle.parser.specs.Grammar.{Is, Joins}
 use Rattle.parser.proofs.See.{symbol_is}
 
-pub none_some : {A : Type 0} (a : A) → None ≡ Some a → ⊥
-none_some a e = let z : ◌≡◌ {A = ℕ} 0 1 = cc in omega arith
-
-pub same_some : {A : Type 0} (a b : A) → Some a ≡ Some b → a ≡ b
-same_some a b e = cc
-
 pub word_is : (t : Tok) (w : Word) → word_of t ≡ Some w → t ≡ word w
-word_is (word v) w e = ap word (same_some v w e)
-word_is (variable v) w e = absurd (none_some w e)
-word_is (numeral n) w e = absurd (none_some w e)
-word_is (symbol s) w e = absurd (none_some w e)
-word_is bad w e = absurd (none_some w e)
-word_is end w e = absurd (none_some w e)
+word_is (word v) w e = ap word (same_Some v w e)
+word_is (variable v) w e = absurd (none-some w e)
+word_is (numeral n) w e = absurd (none-some w e)
+word_is (symbol s) w e = absurd (none-some w e)
+word_is bad w e = absurd (none-some w e)
+word_is end w e = absurd (none-some w e)
 
 pub variable_is : (t : Tok) (w : Word) → variable_of t ≡ Some w → t ≡ variable w
-variable_is (word v) w e = absurd (none_some w e)
-variable_is (variable v) w e = ap variable (same_some v w e)
-variable_is (numeral n) w e = absurd (none_some w e)
-variable_is (symbol s) w e = absurd (none_some w e)
-variable_is bad w e = absurd (none_some w e)
-variable_is end w e = absurd (none_some w e)
+variable_is (word v) w e = absurd (none-some w e)
+variable_is (variable v) w e = ap variable (same_Some v w e)
+variable_is (numeral n) w e = absurd (none-some w e)
+variable_is (symbol s) w e = absurd (none-some w e)
+variable_is bad w e = absurd (none-some w e)
+variable_is end w e = absurd (none-some w e)
 
 -- a token that a reading takes is no symbol that it does not take
 pub unlike : {A : Type 0} (f : Tok → Option A) (x : Symbol) (t : Tok) (a : A) → f t ≡ Some a → f (symbol x) ≡ None → is x t ≡ true → ⊥
-unlike f x t a e n q = none_some a (sym n ∙ ap f (sym (symbol_is x t q)) ∙ e)
+unlike f x t a e n q = none-some a (sym n ∙ ap f (sym (symbol_is x t q)) ∙ e)
 
 pub off : {A : Type 0} (f : Tok → Option A) (x : Symbol) (t : Tok) (a : A) → f t ≡ Some a → f (symbol x) ≡ None → is x t ≡ false
 off f x t a e n = false_from_ne_true (is x t) (unlike f x t a e n)
@@ -47,12 +42,12 @@ two_symbols x y t n e = ap (is y) (symbol_is x t e) ∙ n
 
 -- an operator and its level
 pub joined_at : (n : ℕ) (x : Option Operator) (o : Binary) → of_level n x ≡ Some o → (p : Operator) × (x ≡ Some p) × (p.level ≡ n)
-joined_at n None o e = absurd (none_some o e)
+joined_at n None o e = absurd (none-some o e)
 joined_at n (Some p) o e = cases (eqb p.level n) refl
   where
     cases : (b : Bool) → eqb p.level n ≡ b → (q : Operator) × (Some p ≡ Some q) × (q.level ≡ n)
     cases true q = (p, refl, eqb-true p.level n q)
-    cases false q = absurd (none_some o (sym (λ i. cond (q i) (Some p.binary) None) ∙ e))
+    cases false q = absurd (none-some o (sym (λ i. cond (q i) (Some p.binary) None) ∙ e))
 
 pub other_level : (k n : ℕ) (x : Option Operator) (o : Binary) → of_level n x ≡ Some o → k < n → of_level k x ≡ None
 other_level k n x o e h =

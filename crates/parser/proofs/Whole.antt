@@ -1,6 +1,7 @@
 -- What the grammar derives, the machine accepts, with the very yield of the derivation.
 use Rattle.std.proofs.Common.{◌≡◌, ℕ, zero, suc, ◌+◌, Bool, true, false, cond, eqb, List, [], ◌∷◌, ◌++◌, drop, ℤ, pos, neg_ℤ, Some, None, Option, sym, refl, ap, ◌∙◌, subst, append_assoc, arith}
 use Rattle.std.proofs.lemmas.Bool.{true≢false}
+use Rattle.std.proofs.lemmas.Option.{none-some}
 use Rattle.coverage.specs.declared.axis.Axis.{Axis}
 use Rattle.coverage.specs.declared.range.Range.{Range}
 use Rattle.syntax.specs.Tree.{Binding, Query}
@@ -23,7 +24,7 @@ use Rattle.parser.specs.Grammar as gr
 use Rattle.parser.specs.Grammar.{Is, Numeral, Worded, Variable, OnAxis, Sign, Joins, Opens, Limit, Ranged, Iterates, Binds, Listed, Sort, Gets, expression, level, subset, primary}
 use Rattle.parser.proofs.See.{done, symbol_is, number_is}
 use Rattle.parser.proofs.Commas.{past_iterators, past_bindings}
-use Rattle.parser.proofs.Tokens.{Free, free_symbol, free_joins, free_less, off, none_some, word_is, variable_is, two_symbols}
+use Rattle.parser.proofs.Tokens.{Free, free_symbol, free_joins, free_less, off, word_is, variable_is, two_symbols}
 use Rattle.parser.proofs.Colons.{first, colon_left, minus_left}
 
 -- the machine over yields
@@ -136,12 +137,12 @@ reach_bindings (gr.more {n = n} {rest = rest} {vs = vs} i c l) = more_bindings n
 -- ---- operands
 
 begins_as : (t : Tok) (p : ℕ) (ys : List Yield) (s : List Item) (o : Opening) → opening_of t ≡ Some o → begins mean t p ys s ≡ opened mean o p ys s
-begins_as (word w) p ys s o e = absurd (none_some o e)
-begins_as (variable w) p ys s o e = absurd (none_some o e)
-begins_as (numeral k) p ys s o e = absurd (none_some o e)
+begins_as (word w) p ys s o e = absurd (none-some o e)
+begins_as (variable w) p ys s o e = absurd (none-some o e)
+begins_as (numeral k) p ys s o e = absurd (none-some o e)
 begins_as (symbol x) p ys s o e = ap (λ z. given z (λ o. opened mean o p ys s)) e
-begins_as bad p ys s o e = absurd (none_some o e)
-begins_as end p ys s o e = absurd (none_some o e)
+begins_as bad p ys s o e = absurd (none-some o e)
+begins_as end p ys s o e = absurd (none-some o e)
 
 opening_step : (len : ℕ) (s : List Item) (ys : List Yield) (t : Placed) (ts : List Placed) (o : Opening) → Opens o t → V len (m.operand ∷ s) ys (t ∷ ts) ≡ onward (λ a b. V len a b ts) t.1 (opened mean o t.1 ys s)
 unfolding verdict

@@ -42,7 +42,7 @@ pub enum Bindings {
 
 /// The constructs of an expression. Operands are told by the number of their node, in the order of the
 /// text; a subset entry has first what it is applied to. The mark of an entry says that its axis stands
-/// earlier in the same bracket.
+/// earlier in the same bracket. A condense with `where` is a construct of its own, as in the trees.
 #[derive(Clone, Copy)]
 pub enum Construct {
     Numeral(u32),

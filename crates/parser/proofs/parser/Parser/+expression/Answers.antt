@@ -293,10 +293,10 @@ chain-returns-clause-read t c =
 -- no symbol that opens an operand
 none_of : {A : Type 0} (o : Option A) (p q : ℕ) → ok_or o p ≡ Err q → (o ≡ None) × (p ≡ q)
 none_of None p q e = let f : p ≡ q = cc in (refl, f)
-none_of (Some a) p q e = let z : ◌≡◌ {A = ℕ} 0 1 = cc in absurd (omega arith)
+none_of (Some a) p q e = cc
 
 some_of : {A : Type 0} (o : Option A) (p : ℕ) (a : A) → ok_or o p ≡ Ok a → o ≡ Some a
-some_of None p a e = let z : ◌≡◌ {A = ℕ} 0 1 = cc in absurd (omega arith)
+some_of None p a e = cc
 some_of (Some b) p a e = let f : b ≡ a = cc in ap Some f
 
 -- a symbol that opens an operand, and what follows it
