@@ -6,3 +6,4 @@ pub mod Caps
 pub mod Turns
 pub mod Standing
 pub mod Bounds
+pub mod Products

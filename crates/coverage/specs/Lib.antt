@@ -4,3 +4,4 @@ pub mod Kinds
 pub mod Strips
 pub mod Limits
 pub mod Written
+pub mod Between

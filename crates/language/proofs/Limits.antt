@@ -27,7 +27,7 @@ use Rattle.language.specs.Iterators.{Ranges, iterator_extents, bind_ranges, own_
 use Rattle.language.specs.Typing.{About, Described, named_kind, iterator_kind, domain_of, kind_of, promise_of}
 use Rattle.language.specs.Faults.{most_reads, is_bound, fault_of}
 use Rattle.language.specs.Limits.{widest, SmallIterators, Small, InBounds, RangeInBounds, BoundedShelf}
-use Rattle.language.proofs.Corners.{mul_up}
+use Rattle.coverage.proofs.Products.{mul_up}
 use Rattle.language.proofs.Domains.{own_ordered}
 use Rattle.language.proofs.Rules.{name_accepted, unary_accepted, binary_accepted, reduce_accepted, trim_accepted, slice_accepted, condense_accepted, where_accepted, form_accepted}
 

@@ -22,7 +22,8 @@ use Rattle.language.specs.Typing.{iterator_kind}
 use Rattle.language.specs.Faults.{is_division, position_inside}
 use Rattle.language.specs.Values.{of_one, of_both, at_position}
 use Rattle.language.specs.Results.{In}
-use Rattle.language.proofs.Corners.{four, add_left, add_right, sub_left, sub_right, mul_left, mul_right}
+use Rattle.language.proofs.Corners.{four, add_left, add_right, sub_left, sub_right}
+use Rattle.coverage.proofs.Products.{mul_left, mul_right}
 use Rattle.language.proofs.Quotients.{quotient_left, quotient_right}
 
 pub bit_in : (b : Bool) → Within Truth (Some (bit b))

@@ -6,7 +6,7 @@ use Rattle.std.proofs.lemmas.Int.{ints, clamps}
 use Rattle.std.proofs.lemmas.Nat.{mul-le, le-div, div-add-mod', mod_below}
 use Rattle.language.specs.Operators.{quotient}
 use Rattle.language.specs.Results.{Between}
-use Rattle.language.proofs.Corners.{rises, falls}
+use Rattle.coverage.proofs.Products.{rises, falls}
 
 -- natural quotients rise with the dividend and fall with the divisor
 div_up : (a b k : ℕ) → 0 < k → a ≤ b → a / k ≤ b / k

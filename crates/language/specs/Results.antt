@@ -1,6 +1,6 @@
 -- The results of `+ - * /`: how far they reach, and what a quotient is.
+pub use Rattle.coverage.specs.Between.{Between}
 use Rattle.std.specs.Prelude.{◌≡◌, ◌<◌, ◌≤◌, false, ◌&&◌, ◌⊎◌, ℤ, pos, ◌-ℤ◌, ◌*ℤ◌, ◌≤ℤ◌, ◌<ℤ◌, ◌≢◌, unsigned_abs}
-use Rattle.std.specs.Int.{int_min, int_max}
 use Rattle.coverage.specs.declared.range.Range.{Range}
 use Rattle.syntax.specs.declared.Arithmetic.{Arithmetic}
 use Rattle.syntax.specs.declared.Binary.TheVariants.{Numbers}
@@ -11,11 +11,6 @@ use Rattle.language.specs.Faults.{is_division}
 -- a value lies in a span
 abbrev pub In : Range → ℤ → Type 0
 In r x = (r.lo ≤ℤ x) × (x ≤ℤ r.hi)
-
--- r lies between p and q, whichever is the lower
-pub record Between (p q r : ℤ) : Type 0 where
-  pub least : int_min p q ≤ℤ r
-  pub most : r ≤ℤ int_max p q
 
 -- v is the result for some values of the two spans
 pub record Reached (f : ℤ → ℤ → ℤ) (a b : Range) (v : ℤ) : Type 0 where

@@ -25,7 +25,8 @@ use Rattle.shelf_laws.specs.declared.ramp.Plane.{Plane}
 use Rattle.shelf_laws.specs.RampMaking.{DescribedRamp}
 use Rattle.shelf_laws.specs.Ramp.{AtCorner, AtEnd, Gradient, Slopes, gradient, SpanIsExact, all_mild, is_mild, is_near, least, most, ramp_cells, ramp_fault, ramp_kind, ramp_keeps, ramp_meaning, ramp_span, ramp_value, rise, rise_at, rises, sum_over}
 use Rattle.shelf.proofs.Answering.{cond_none}
-use Rattle.shelf_laws.proofs.Products.{Small, fits_64, mul_between, mul_small}
+use Rattle.shelf_laws.proofs.Products.{Small, fits_64, mul_small}
+use Rattle.coverage.proofs.Products.{mul_right}
 use Rattle.shelf_laws.proofs.Makings.{Allowed, allowed_describable, answer_by}
 use Rattle.shelf_laws.proofs.Singles.{fixed_by, fixed_lawful}
 
@@ -123,7 +124,7 @@ sum_turn f offset i v w x y k h e s ex ey =
 -- what an axis adds lies between the least and the most
 rise_between : (r : Option Range) (s v : ℤ) → Holds r v → ((rises r s).lo ≤ℤ rise r s v) × (rise r s v ≤ℤ (rises r s).hi)
 rise_between None s v h = (omega (arith, ints), omega (arith, ints))
-rise_between (Some r) s v h = let b = mul_between s r.lo r.hi v h.0 h.1 in (b.above_least, b.below_most)
+rise_between (Some r) s v h = let b = mul_right r.lo r.hi s v h.0 h.1 in (b.least, b.most)
 
 -- an end of an axis where it adds as much as is asked
 pub record End (r : Option Range) (s w : ℤ) : Type 0 where
