@@ -3,7 +3,6 @@ pub mod Points
 pub mod Ranges
 pub mod Numbers
 pub mod Caps
-pub mod Loops
 pub mod Turns
 pub mod Standing
 pub mod Bounds

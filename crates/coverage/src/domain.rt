@@ -80,6 +80,8 @@ impl Domain {
     }
 
     /// The point of a number counted over some axes; the others keep their coordinate in `from`.
+    // That each axis is `Sized` stands in four contracts and in no type: a domain is asked about before it is known
+    // to be sized, and a second type of domains would be made for one call at each place that asks for a point.
     pub fn point_over(self, axes: &[Axis], number: usize, from: Point) -> Point
         requires sized { Sized (extents self) }
         requires once { distinct axes.now ≡ true }

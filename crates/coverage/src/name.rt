@@ -4,6 +4,7 @@ ghost use Rattle.std.specs.Prelude.{◌≡◌, if◌then◌else◌, Some, None};
 ghost use Rattle.std.specs.Str.{bytes_eq};
 
 /// The name of a coverage: the first `len` of the bytes.
+// A buffer with its length: there is no heap for it, and a name is copied with its description.
 #[derive(Clone, Copy)]
 pub struct Name {
     pub len: usize,

@@ -17,6 +17,7 @@ pub enum Returned {
 }
 
 /// A refusal as it is told: the layer, the number of the cause, and what is returned with it.
+// The number is the format: the causes are the enums of faults, and each has the number that docs/refusals.md tells.
 #[derive(Clone, Copy, Debug, PartialEq, Eq)]
 pub struct Refusal {
     pub layer: Layer,

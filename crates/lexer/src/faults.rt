@@ -10,6 +10,7 @@ pub fn first_bad(text: &[u8]) -> Option<usize>
     ensures { result ≡ first_bad (toks text.now 0) }
 {
     let mut from = Cursor::new(text);
+    // Nothing is counted: each turn goes on where the last token ended, and two kinds of token end it.
     loop {
         let t = peek(&from);
         match t.token {

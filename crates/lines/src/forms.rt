@@ -142,6 +142,7 @@ fn help<'a>(line: &'a [u8]) -> Result<Command<'a>, usize>
     Ok(Command::Help)
 }
 
+// A match on the first: what `or_else` gives of a closure that maps the second's place is not found.
 /// Of two readings, the one that found a command; where neither did, the line stops where the farther stops.
 fn either<'a>(
     one: Result<Command<'a>, usize>,
@@ -168,6 +169,7 @@ pub fn parse<'a>(line: &'a [u8]) -> Result<Command<'a>, usize>
     ensures parsed { Parsed line.now result }
     ensures says { Said line.now result }
 {
+    // Every shape of a grid line is read: a line stops where the farthest of all forms stops.
     any(&[
         grid(line, Axes::X, Sort::Numbers),
         grid(line, Axes::X, Sort::Truths),

@@ -3,6 +3,7 @@ ghost use Rattle.std.specs.Prelude.{◌≡◌, ℕ, ◌+◌, ◌<◌, ◌≤◌,
 use crate::node::{Construct, Node};
 use cursor::Cursor;
 
+// Nodes are told by their numbers in a table that the caller lends: the parser has no heap.
 /// A text that is read from a place on, and the table that nodes are written to while it has room: how many
 /// there are, also past its end. No node is without a byte of its own.
 #[derive(Drop)]

@@ -4,7 +4,7 @@ use Rattle.coverage.specs.declared.range.Range.{Range}
 use Rattle.coverage.specs.declared.axis.Axis.{Axis}
 use Rattle.coverage.specs.declared.axis.Axis.TheVariants.{X}
 use Rattle.coverage.specs.Axes.{Extents, Coordinates, across, axes, inside_b, is_none, number_at, number_over, on_axis, same_z, size_of, step_of}
-use Rattle.coverage.specs.Strips.{in_strip, strip_at, strip_point}
+use Rattle.coverage.specs.Strips.{in_strip, strip_point}
 use Rattle.coverage.proofs.Points.{all_same}
 use Rattle.shelf.specs.Meaning.{settled, settled_on}
 
@@ -30,10 +30,6 @@ over_settled (a ∷ rest) d p = ap₂ (λ i j. i * size_of (d a) + j) (over_sett
 pub settled_number : (d : Extents) (p : Coordinates) → number_at d (settled d p) ≡ number_at d p
 unfolding number_at
 settled_number d p = over_settled axes d p
-
-pub settled_strip : (d : Extents) (p : Coordinates) → strip_at d (settled d p) ≡ strip_at d p
-unfolding strip_at
-settled_strip d p = over_settled across d p
 
 pub settled_in_strip : (d : Extents) (n : ℕ) (p : Coordinates) → in_strip d n (settled d p) ≡ in_strip d n p
 settled_in_strip d n p =

@@ -1,11 +1,10 @@
 -- The calls of a join, by those of its two shelves, and its laws.
-use Rattle.std.proofs.Common.{◌≡◌, ℕ, ◌-◌, ◌<◌, ◌≤◌, ltb, List, ◌++◌, length, take, ℤ, Some, None, Err, Option, sym, refl, ap, ◌∙◌, arith, length-take, ltb-false, ltb-true}
+use Rattle.std.proofs.Common.{◌≡◌, ℕ, ◌-◌, ◌<◌, ◌≤◌, ltb, List, ◌++◌, length, take, ℤ, Some, None, Option, sym, refl, ap, ◌∙◌, arith, length-take, ltb-false, ltb-true}
 use Rattle.std.specs.List.{slice_get}
 use Rattle.std.proofs.lemmas.Option.{slice_get_past}
 use Rattle.coverage.specs.Axes.{Coordinates}
 use Rattle.coverage.proofs.Bools.{by_test}
 use Rattle.shelf.specs.declared.fault.ShelfFault.{ShelfFault}
-use Rattle.shelf.specs.declared.fault.ShelfFault.TheVariants.{NoCoverage}
 use Rattle.shelf.specs.Faults.{told}
 use Rattle.shelf.specs.Meaning.{Coverage, after_of, answer_of, describe_answer, described, fault_at, look_answer, looked, put_strip, strip_after, strip_answer, strip_fault}
 use Rattle.shelf.specs.Laws.{Lawful}
@@ -29,17 +28,11 @@ describe_left a b c l h = ap (λ o. described o c) (at_left a b c l h)
 pub describe_right : (a b : List Coverage) (c : ℕ) → c < 8 → length a ≤ c → describe_answer (joined a b) c ≡ told (describe_answer b (c - length a)) c 0
 describe_right a b c l h = ap (λ o. described o c) (at_right a b c l h) ∙ described_told (slice_get b (c - length a)) c (c - length a)
 
-pub describe_past : (a b : List Coverage) (c : ℕ) → 8 ≤ c → describe_answer (joined a b) c ≡ Err (NoCoverage c 0)
-describe_past a b c h = ap (λ o. described o c) (at_past a b c h)
-
 pub look_left : (a b : List Coverage) (c : ℕ) (p : Coordinates) → length a ≤ 8 → c < length a → look_answer (joined a b) c p ≡ look_answer a c p
 look_left a b c p l h = ap (λ o. looked o c p) (at_left a b c l h)
 
 pub look_right : (a b : List Coverage) (c : ℕ) (p : Coordinates) → c < 8 → length a ≤ c → look_answer (joined a b) c p ≡ told (look_answer b (c - length a) p) c 0
 look_right a b c p l h = ap (λ o. looked o c p) (at_right a b c l h) ∙ looked_told (slice_get b (c - length a)) c (c - length a) p
-
-pub look_past : (a b : List Coverage) (c : ℕ) (p : Coordinates) → 8 ≤ c → look_answer (joined a b) c p ≡ Err (NoCoverage c 0)
-look_past a b c p h = ap (λ o. looked o c p) (at_past a b c h)
 
 after_left : (o : Option ShelfFault) (a b : List Coverage) (c n : ℕ) (cs : List ℤ) → c < length a → after_of o (joined a b) c n cs ≡ joined (after_of o a c n cs) b
 after_left None a b c n cs h = edited_take 8 (a ++ b) c (λ k. put_strip k n cs) ∙ ap (take 8) (edited_left a b c (λ k. put_strip k n cs) h)
@@ -61,12 +54,6 @@ strip_right a b c n cs l h =
     let f = strip_fault b (c - length a) n cs in
     let e : strip_fault (joined a b) c n cs ≡ told_fault f c n = ap (λ o. fault_at o c n cs) (at_right a b c l h) ∙ fault_told (slice_get b (c - length a)) c (c - length a) n cs in
     (ap answer_of e ∙ answer_told f c n, ap (λ o. after_of o (joined a b) c n cs) e ∙ after_right f a b c n cs h)
-
-pub strip_past : (a b : List Coverage) (c n : ℕ) (cs : List ℤ) → 8 ≤ c →
-    (strip_answer (joined a b) c n cs ≡ Err (NoCoverage c n)) × (strip_after (joined a b) c n cs ≡ joined a b)
-strip_past a b c n cs h =
-    let e : strip_fault (joined a b) c n cs ≡ Some (NoCoverage c n) = ap (λ o. fault_at o c n cs) (at_past a b c h) in
-    (ap answer_of e, ap (λ o. after_of o (joined a b) c n cs) e)
 
 pub joined_lawful : (a b : List Coverage) → Lawful a → Lawful b → Lawful (joined a b)
 joined_lawful a b la lb = record {

@@ -12,18 +12,12 @@ use Rattle.coverage.proofs.Bools.{and_left, and_right, by_test}
 use Rattle.shelf.specs.declared.fault.MakingFault.{MakingFault}
 use Rattle.shelf.specs.declared.fault.ShelfFault.{ShelfFault}
 use Rattle.shelf.specs.declared.fault.ShelfFault.TheVariants.{Outside}
-use Rattle.shelf.specs.Meaning.{Coverage, describe_answer, look_answer, settled, strip_after, strip_answer, strip_fault}
+use Rattle.shelf.specs.Meaning.{Coverage, look_answer, settled, strip_fault}
 use Rattle.shelf.specs.Laws.{Lawful, LawfulCoverage}
-use Rattle.shelf.proofs.Single.{none_lawful, one_lawful, refused_is}
-use Rattle.shelf_laws.specs.Single.{CellsOf, Described, MadeFixed, fixed_fault, fixed_in, fixed_ok, held, reached, single}
+use Rattle.shelf.proofs.Single.{none_lawful, one_lawful}
+use Rattle.shelf_laws.specs.Single.{CellsOf, Described, MadeFixed, fixed_fault, fixed_ok, reached, single}
 
 -- ---- calls
-
-pub describe_held : (o : Option Description) (cell : CellsOf) (c : ℕ) → describe_answer (single o cell) c ≡ held o c 0
-describe_held None cell zero = refl
-describe_held None cell (suc c) = refl
-describe_held (Some a) cell zero = refl
-describe_held (Some a) cell (suc c) = refl
 
 -- what is seen of the coverage that a look reaches
 abbrev pub seen : CellsOf → Result Description ShelfFault → Coordinates → Result (Option ℤ) ShelfFault
@@ -64,13 +58,6 @@ fixed_fault_lem None cell zero n row h = refl
 fixed_fault_lem None cell (suc c) n row h = refl
 fixed_fault_lem (Some a) cell zero n row h = rw (h a refl) refl
 fixed_fault_lem (Some a) cell (suc c) n row h = refl
-
--- a fixed coverage takes no strip, and stays
-pub strip_fixed : (o : Option Description) (cell : CellsOf) (c n : ℕ) (row : List ℤ) (r : Result Description ShelfFault) → ((a : Description) → o ≡ Some a → a.receives ≡ false) → held o c n ≡ r →
-    (Err (fixed_in r c n) ≡ strip_answer (single o cell) c n row) × (single o cell ≡ strip_after (single o cell) c n row)
-strip_fixed o cell c n row r h e =
-    refused_is (single o cell) c n row (fixed_in r c n)
-    (fixed_fault_lem o cell c n row h ∙ (let some : Result Description ShelfFault → Option ShelfFault = λ x. Some (fixed_in x c n) in ap some e))
 
 -- ---- laws
 

@@ -12,27 +12,15 @@ use Rattle.coverage.proofs.Bounds.{bounded_ordered, describable_by, few_cells, s
 use Rattle.coverage.proofs.Standing.{strip_first_holds}
 use Rattle.shelf.specs.declared.fault.ShelfFault.{ShelfFault}
 use Rattle.shelf.specs.declared.fault.ShelfFault.TheVariants.{Fixed, NoStrip, Outside}
-use Rattle.shelf.specs.declared.fault.MakingFault.{MakingFault}
-use Rattle.shelf.specs.declared.fault.MakingFault.TheVariants.{OutOfBounds}
 use Rattle.shelf.specs.Faults.{told}
-use Rattle.shelf.specs.Meaning.{Coverage, describe_answer, described, domain_of, find_answer, look_answer, strip_after, strip_answer}
+use Rattle.shelf.specs.Meaning.{Coverage, describe_answer, domain_of, find_answer, look_answer, strip_after, strip_answer}
 use Rattle.shelf.specs.Laws.{Lawful, LawfulCoverage}
 use Rattle.shelf.proofs.Single.{refused_is}
 use Rattle.shelf_laws.specs.declared.cut.Cut.{Cut}
 use Rattle.shelf_laws.specs.declared.cut.View.{View}
-use Rattle.shelf_laws.specs.Window.{cut_about, cut_fits, seen, strip_below, view_on, window_meaning}
+use Rattle.shelf_laws.specs.Window.{seen, strip_below, view_on, window_meaning}
 use Rattle.shelf_laws.proofs.Windows.{seen_inside, seen_lawful}
 use Rattle.shelf_laws.proofs.WindowCalls.{Viewed, fault_fixed, fault_no_strip, look_beyond, look_shown, strip_through, viewed, window_is}
-
--- a described coverage is seen where the cut fits
-pub view_by : (o : Option Coverage) (c : ℕ) (cut : Cut) (a : Description) (b : Bool) → Ok a ≡ described o c → cut_fits (extents a.domain) cut ≡ b →
-    view_on o c cut ≡ cond b (Ok (record { whole = a.domain; about = cut_about a cut })) (Err OutOfBounds)
-view_by None c cut a b e f = cc
-view_by (Some k) c cut a b e f =
-    let same : k.about ≡ a = cc in
-    let make : Description → View = λ x. record { whole = x.domain; about = cut_about x cut } in
-    let ok : View → Result View MakingFault = λ v. Ok v in
-    ap (λ x. cond (cut_fits (extents x.domain) cut) (ok (make x)) (Err OutOfBounds)) same ∙ ap (λ t. cond t (ok (make a)) (Err OutOfBounds)) f
 
 module _ (m : List Coverage) (c : ℕ) (cut : Cut) (v : View) (shown : Ok v ≡ view_on (slice_get m c) c cut) (law : Lawful m) where
   is : Viewed m c cut v

@@ -1,6 +1,7 @@
 ghost use Rattle.std.specs.Prelude.{◌≡◌, ◌+◌, ◌≤◌, length};
 ghost use Rattle.std.proofs.Math.Seq.{paste};
 
+// A type of its own, so that the laws of a received grid's cells can be shown of it.
 /// The cells that a caller lends, row after row.
 #[derive(Drop)]
 pub struct Rows<'a> {

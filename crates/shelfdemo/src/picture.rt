@@ -1,12 +1,7 @@
-use coverage::range::{lowest, places};
-use coverage::{Domain, Point, Range};
+use coverage::range::{coordinates, lowest};
+use coverage::{Domain, Point};
 use shelf::Shelf;
 use std::io;
-
-/// The coordinate some places above the lowest of an axis, 0 where it is absent.
-fn coordinate_at(axis: Option<Range>, k: usize) -> i64 {
-    lowest(axis).saturating_add(i64::try_from(k).unwrap_or(0))
-}
 
 /// Prints a cell in a column, a dot for null.
 fn print_cell(rt: &HostRuntime, cell: Option<i32>) -> io::Result<()> {
@@ -25,9 +20,9 @@ fn print_row<S: Shelf>(
     y: i64,
 ) -> io::Result<()> {
     print!(rt; "y {y}:")?;
-    for k in 0..places(domain.x) {
+    for x in coordinates(domain.x) {
         let at = Point {
-            x: coordinate_at(domain.x, k),
+            x,
             y,
             t: lowest(domain.t),
         };
@@ -41,8 +36,7 @@ pub fn picture<S: Shelf>(rt: &HostRuntime, shelf: &S, coverage: usize) -> io::Re
     let Ok(about) = shelf.describe(coverage) else {
         return println!(rt; "nothing");
     };
-    for k in 0..places(about.domain.y) {
-        let y = coordinate_at(about.domain.y, k);
+    for y in coordinates(about.domain.y) {
         print_row(rt, shelf, coverage, about.domain, y)?;
     }
     Ok(())

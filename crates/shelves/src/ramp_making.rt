@@ -34,7 +34,7 @@ fn describe_ramp(
         return Err(MakingFault::OutOfBounds);
     }
     let plane = Plane { slopes, offset };
-    let _ = count_cells(domain)?;
+    count_cells(domain)?;
     let about = Description {
         name,
         domain,
