@@ -22,12 +22,12 @@ past_bindings act (suc k) js s st t p e = λ i. cond (e i) (moved (binding k js 
 pub last_iterator : (old new : Cursor) → Eaten Comma old new false → (k : ℕ) (h : Head) (js : List Placing) (s : List Item) (st : St) → on old (iterators k h js ∷ s) st ≡ on new (iterators 0 h js ∷ s) st
 last_iterator old new e k h js s st = left old new e _ st _ (λ _. refl) (past_iterators build k h js s st (tok e.next.token) e.next.place e.told)
 
+pub last_binding : (old new : Cursor) → Eaten Comma old new false → (k : ℕ) (h : Unit {0}) (js : List Binding) (s : List Item) (st : St) → on old (bindings k js ∷ s) st ≡ on new (bindings 0 js ∷ s) st
+last_binding old new e k h js s st = left old new e _ st _ (λ _. refl) (past_bindings build k js s st (tok e.next.token) e.next.place e.told)
+
 -- after an item and a comma
-pub next_iterator : {old new : Cursor} → Eaten Comma old new true → (k : ℕ) (h : Head) (js : List Placing) (s : List Item) (st : St) → on old (iterators (suc k) h js ∷ s) st ≡ on new (iterator k h js ∷ s) st
-next_iterator e k h js s st = ate e _ st _ refl
+pub next_iterator : (old new : Cursor) → Eaten Comma old new true → (k : ℕ) (h : Head) (js : List Placing) (s : List Item) (st : St) → on old (iterators (suc k) h js ∷ s) st ≡ on new (iterator k h js ∷ s) st
+next_iterator old new e k h js s st = ate e _ st _ refl
 
-pub last_binding : (old new : Cursor) → Eaten Comma old new false → (k : ℕ) (js : List Binding) (s : List Item) (st : St) → on old (bindings k js ∷ s) st ≡ on new (bindings 0 js ∷ s) st
-last_binding old new e k js s st = left old new e _ st _ (λ _. refl) (past_bindings build k js s st (tok e.next.token) e.next.place e.told)
-
-pub next_binding : {old new : Cursor} → Eaten Comma old new true → (k : ℕ) (js : List Binding) (s : List Item) (st : St) → on old (bindings (suc k) js ∷ s) st ≡ on new (binding k js ∷ s) st
-next_binding e k js s st = ate e _ st _ refl
+pub next_binding : (old new : Cursor) → Eaten Comma old new true → (k : ℕ) (h : Unit {0}) (js : List Binding) (s : List Item) (st : St) → on old (bindings (suc k) js ∷ s) st ≡ on new (binding k js ∷ s) st
+next_binding old new e k h js s st = ate e _ st _ refl

@@ -18,3 +18,5 @@ pub mod Values
 pub mod Together
 pub mod Said
 pub mod Limits
+pub mod Slots
+pub mod Several

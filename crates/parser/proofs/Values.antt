@@ -11,7 +11,7 @@ use Rattle.parser.specs.declared.node.Node.{Node}
 use Rattle.syntax.specs.declared.Unary.TheVariants as unary
 use Rattle.parser.specs.Actions.{Placing, number, truth, named, iterating, Action, leaf, prefix, apply, join, trim, slice, condense, pick, cover, wrap, Val, val, St, state, node, iteration, iterations_of, build}
 use Rattle.parser.specs.Yields.{Yield, begun, last, before, iterators, mean}
-use Rattle.parser.specs.Tables.{iterator_of, iterators_of, tree_of, trees, constructs, node_at, trees_in, tree_in, Earlier, SmallIterations, SmallConstruct, WellFormed}
+use Rattle.parser.specs.Tables.{iterator_of, iterators_of, tree_of, trees, constructs, node_at, trees_in, tree_in, Earlier, SmallIteration, SmallIterations, SmallConstruct, WellFormed}
 use Rattle.parser.proofs.Tables.{grown, length_trees_in, trees_in_more, tree_stays}
 use Rattle.parser.proofs.Due.{PlacingWritten, PlacingsWritten, Ready, fewer, after}
 
@@ -154,11 +154,14 @@ iterators_are bs (a ∷ b ∷ []) h = ap₂ (λ x y. x ∷ y ∷ []) (iterator_i
 iterators_are bs (a ∷ b ∷ c ∷ []) h = λ j. iterator_is bs a h.each.0 j ∷ iterator_is bs b h.each.1.0 j ∷ iterator_is bs c h.each.1.1.0 j ∷ []
 iterators_are bs (a ∷ b ∷ c ∷ d ∷ is) h = absurd (omega arith)
 
+small_one : (bs : List ℕ) (i : Placing) → PlacingWritten bs i → SmallIteration (iteration i)
+small_one bs i x = (x.1.0, x.2.1)
+
 small_iterations : (bs : List ℕ) (is : List Placing) → PlacingsWritten bs is → SmallIterations (iterations_of is)
 small_iterations bs [] h = absurd (omega arith)
-small_iterations bs (a ∷ []) h = let x = h.each.0 in (x.1.0, x.2.1)
-small_iterations bs (a ∷ b ∷ []) h = let x = h.each.0 in let y = h.each.1.0 in ((x.1.0, x.2.1), (y.1.0, y.2.1))
-small_iterations bs (a ∷ b ∷ c ∷ []) h = let x = h.each.0 in let y = h.each.1.0 in let z = h.each.1.1.0 in ((x.1.0, x.2.1), (y.1.0, y.2.1), (z.1.0, z.2.1))
+small_iterations bs (a ∷ []) h = (small_one bs a h.each.0, tt)
+small_iterations bs (a ∷ b ∷ []) h = (small_one bs a h.each.0, (small_one bs b h.each.1.0, tt))
+small_iterations bs (a ∷ b ∷ c ∷ []) h = (small_one bs a h.each.0, (small_one bs b h.each.1.0, (small_one bs c h.each.1.1.0, tt)))
 small_iterations bs (a ∷ b ∷ c ∷ d ∷ is) h = absurd (omega arith)
 
 -- ---- actions

@@ -1,6 +1,6 @@
 -- What reading a text builds, step by step: each action makes a construct of the last values, or changes
 -- the last one. It is told twice: of the table of nodes (`build`), and of trees (`mean`).
-use Rattle.std.specs.Prelude.{ℕ, ◌+◌, min, max, Bool, List, [], ◌∷◌, length, drop, ℤ, pos, slice_index_or, slice_set}
+use Rattle.std.specs.Prelude.{ℕ, ◌+◌, min, max, Bool, List, [], ◌∷◌, length, map, replicate, drop, ℤ, pos, Some, None, Option, slice_index_or, slice_set}
 use Rattle.coverage.specs.declared.axis.Axis.{Axis}
 use Rattle.coverage.specs.declared.axis.Axis.TheVariants.{X}
 use Rattle.coverage.specs.declared.range.Range.{Range}
@@ -14,11 +14,8 @@ use Rattle.parser.specs.declared.roles.Function.{Function}
 use Rattle.parser.specs.declared.roles.Function.TheVariants.{Abs, Over}
 use Rattle.parser.specs.declared.node.Part.{Part}
 use Rattle.parser.specs.declared.node.Iteration.{Iteration}
-use Rattle.parser.specs.declared.node.Iterations.{Iterations}
-use Rattle.parser.specs.declared.node.Iterations.TheVariants as iterations
 use Rattle.parser.specs.declared.node.Binding.{Binding}
-use Rattle.parser.specs.declared.node.Bindings.{Bindings}
-use Rattle.parser.specs.declared.node.Bindings.TheVariants as bindings
+use Rattle.parser.specs.declared.node.Few.{Few}
 use Rattle.parser.specs.declared.node.Construct.{Construct}
 use Rattle.parser.specs.declared.node.Construct.TheVariants as construct
 use Rattle.parser.specs.declared.node.Node.{Node}
@@ -89,26 +86,34 @@ part p n = record { place = p; length = n }
 abbrev pub deeper : ℕ → ℕ
 deeper n = min (n + 1) 12
 
+-- slots without items, and with the first of them filled
+abbrev pub empty : {T : Type 0} → ℕ → List (Option T)
+empty n = replicate n None
+
+abbrev pub filled : {T : Type 0} → List T → List (Option T) → List (Option T)
+filled [] os = os
+filled (x ∷ xs) [] = []
+filled (x ∷ xs) (o ∷ os) = Some x ∷ filled xs os
+
+-- an item, and at most n more
+abbrev pub few : {T : Type 0} → (n : ℕ) → T → List T → Few T n
+few n x xs = record { first = x; more = filled xs (empty n) }
+
 abbrev pub iteration : Placing → Iteration
 iteration i = record { word = part i.place (length i.iterator.word); axis = i.iterator.axis; range = i.iterator.range }
 
 -- a form has one to three iterators
-abbrev pub iterations_of : List Placing → Iterations
-iterations_of [] = iterations.One (record { word = part 0 0; axis = X; range = record { lo = pos 0; hi = pos 0 } })
-iterations_of (a ∷ []) = iterations.One (iteration a)
-iterations_of (a ∷ b ∷ []) = iterations.Two (iteration a) (iteration b)
-iterations_of (a ∷ b ∷ c ∷ is) = iterations.Three (iteration a) (iteration b) (iteration c)
+abbrev pub iterations_of : List Placing → Few Iteration 2
+iterations_of [] = few 2 (record { word = part 0 0; axis = X; range = record { lo = pos 0; hi = pos 0 } }) []
+iterations_of (a ∷ is) = few 2 (iteration a) (map iteration is)
 
 abbrev pub binding : tree.Binding → Binding
 binding b = record { word = part (b.word_place + 1) (length b.word); coverage = part b.coverage_place (length b.coverage) }
 
 -- a query has one to four bindings
-abbrev pub bindings_of : List tree.Binding → Bindings
-bindings_of [] = bindings.One (record { word = part 0 0; coverage = part 0 0 })
-bindings_of (a ∷ []) = bindings.One (binding a)
-bindings_of (a ∷ b ∷ []) = bindings.Two (binding a) (binding b)
-bindings_of (a ∷ b ∷ c ∷ []) = bindings.Three (binding a) (binding b) (binding c)
-bindings_of (a ∷ b ∷ c ∷ d ∷ bs) = bindings.Four (binding a) (binding b) (binding c) (binding d)
+abbrev pub bindings_of : List tree.Binding → Few Binding 3
+bindings_of [] = few 3 (record { word = part 0 0; coverage = part 0 0 }) []
+bindings_of (a ∷ bs) = few 3 (binding a) (map binding bs)
 
 -- a `$` word's bytes begin after the `$`
 abbrev pub leaf_at : ℕ → Leaf → Construct

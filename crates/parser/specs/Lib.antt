@@ -8,6 +8,7 @@ pub mod Faults
 pub mod Tables
 pub mod Built
 pub mod Reads
+pub mod Lists
 pub mod Parsed
 pub mod Texts
 pub mod Theorem

@@ -10,15 +10,10 @@ use Rattle.lexer.specs.declared.token.Lexed.{Lexed}
 use Rattle.lexer.specs.Tokens.{Tok, tok}
 use Rattle.lexer.specs.Toks.{Placed, toks, consed, is_end, Peeked}
 use Rattle.parser.specs.declared.node.Part.{Part}
-use Rattle.parser.specs.declared.node.Iteration.{Iteration}
-use Rattle.parser.specs.declared.node.Iterations.{Iterations}
-use Rattle.parser.specs.declared.node.Binding as node
-use Rattle.parser.specs.declared.node.Bindings.{Bindings}
 use Rattle.parser.specs.declared.roles.Operator.{Operator}
 use Rattle.parser.specs.Roles.{is, operator_of, between}
-use Rattle.parser.specs.Actions.{Placing, St, spanning, part, build, slice, iteration, iterations_of, binding, bindings_of}
-use Rattle.parser.specs.Machine.{Item, Use, Edge, upper, trims, used, Verdict, accepted, refused, ends, verdict, must, bound, follows, arg, expr, acts, Head, iterator, iterators, bindings}
-use Rattle.parser.specs.Machine as machine
+use Rattle.parser.specs.Actions.{St, spanning, part, build, slice}
+use Rattle.parser.specs.Machine.{Item, Use, Edge, upper, trims, used, Verdict, accepted, refused, ends, verdict, must, bound, follows, arg, expr, acts}
 
 -- what comes of a stack and a state from a place on
 abbrev pub on : Cursor → List Item → St → Verdict St
@@ -119,50 +114,6 @@ pub record RangeEnded (old new : Cursor) (v : ℤ) : Type 0 where
 abbrev pub RangeEnds : Cursor → Cursor → Result ℤ ℕ → Type 0
 RangeEnds old new (Ok v) = RangeEnded old new v
 RangeEnds old new (Err p) = (u : Use) (lo : ℤ) (s : List Item) (st : St) → on old (bound (upper u lo) ∷ s) st ≡ refused p
-
--- ---- iterators and bindings
-
-pub record OneIterator (old new : Cursor) (r : Iteration) : Type 0 where
-  pub what : Placing
-  pub same : iteration what ≡ r
-  pub forward : old.at < new.at
-  pub turns : (k : ℕ) (h : Head) (js : List Placing) (s : List Item) (st : St) → on old (iterator k h js ∷ s) st ≡ on new (iterators k h (js ++ (what ∷ [])) ∷ s) st
-
-abbrev pub IteratorRead : Cursor → Cursor → Result Iteration ℕ → Type 0
-IteratorRead old new (Ok r) = OneIterator old new r
-IteratorRead old new (Err p) = (k : ℕ) (h : Head) (js : List Placing) (s : List Item) (st : St) → on old (iterator k h js ∷ s) st ≡ refused p
-
--- all iterators of a form: no more may come
-pub record AllIterators (old new : Cursor) (r : Iterations) : Type 0 where
-  pub what : List Placing
-  pub same : iterations_of what ≡ r
-  pub forward : old.at < new.at
-  pub turns : (h : Head) (s : List Item) (st : St) → on old (iterator 2 h [] ∷ s) st ≡ on new (iterators 0 h what ∷ s) st
-
-abbrev pub IteratorsRead : Cursor → Cursor → Result Iterations ℕ → Type 0
-IteratorsRead old new (Ok r) = AllIterators old new r
-IteratorsRead old new (Err p) = (h : Head) (s : List Item) (st : St) → on old (iterator 2 h [] ∷ s) st ≡ refused p
-
-pub record OneBinding (old new : Cursor) (r : node.Binding) : Type 0 where
-  pub what : Binding
-  pub same : binding what ≡ r
-  pub forward : old.at < new.at
-  pub turns : (k : ℕ) (js : List Binding) (s : List Item) (st : St) → on old (machine.binding k js ∷ s) st ≡ on new (bindings k (js ++ (what ∷ [])) ∷ s) st
-
-abbrev pub BindingRead : Cursor → Cursor → Result node.Binding ℕ → Type 0
-BindingRead old new (Ok r) = OneBinding old new r
-BindingRead old new (Err p) = (k : ℕ) (js : List Binding) (s : List Item) (st : St) → on old (machine.binding k js ∷ s) st ≡ refused p
-
--- all bindings of a query: no more may come
-pub record AllBindings (old new : Cursor) (r : Bindings) : Type 0 where
-  pub what : List Binding
-  pub same : bindings_of what ≡ r
-  pub forward : old.at < new.at
-  pub turns : (s : List Item) (st : St) → on old (machine.binding 3 [] ∷ s) st ≡ on new (bindings 0 what ∷ s) st
-
-abbrev pub BindingsRead : Cursor → Cursor → Result Bindings ℕ → Type 0
-BindingsRead old new (Ok r) = AllBindings old new r
-BindingsRead old new (Err p) = (s : List Item) (st : St) → on old (machine.binding 3 [] ∷ s) st ≡ refused p
 
 -- ---- operators and ranges ahead
 

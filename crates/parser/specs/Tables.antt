@@ -1,14 +1,12 @@
 -- The tree that a table of nodes stands for. A node's operands stand before it.
-use Rattle.std.specs.Prelude.{◌≡◌, ℕ, ◌+◌, ◌-◌, ◌<◌, ◌≤◌, List, [], ◌∷◌, ◌++◌, take, drop, pos, neg_ℤ, ◌≤ℤ◌, slice_index_or}
+use Rattle.std.specs.Prelude.{◌≡◌, ℕ, ◌+◌, ◌-◌, ◌<◌, ◌≤◌, List, [], ◌∷◌, ◌++◌, map, take, drop, pos, neg_ℤ, ◌≤ℤ◌, Some, None, Option, slice_index_or}
+use Rattle.std.specs.List.{AllByRecursion as All}
 use Rattle.syntax.specs.Tree.{Word, Iterator, Expr, Query}
 use Rattle.syntax.specs.Tree as tree
 use Rattle.parser.specs.declared.node.Part.{Part}
 use Rattle.parser.specs.declared.node.Iteration.{Iteration}
-use Rattle.parser.specs.declared.node.Iterations.{Iterations}
-use Rattle.parser.specs.declared.node.Iterations.TheVariants as iterations
 use Rattle.parser.specs.declared.node.Binding.{Binding}
-use Rattle.parser.specs.declared.node.Bindings.{Bindings}
-use Rattle.parser.specs.declared.node.Bindings.TheVariants as bindings
+use Rattle.parser.specs.declared.node.Few.{Few}
 use Rattle.parser.specs.declared.node.Construct.{Construct}
 use Rattle.parser.specs.declared.node.Construct.TheVariants as construct
 use Rattle.parser.specs.declared.node.Node.{Node}
@@ -21,20 +19,24 @@ spelt bs w = take w.length (drop w.place bs)
 abbrev pub iterator_of : List ℕ → Iteration → Iterator
 iterator_of bs i = record { word = spelt bs i.word; axis = i.axis; range = i.range }
 
-abbrev pub iterators_of : List ℕ → Iterations → List Iterator
-iterators_of bs (iterations.One a) = iterator_of bs a ∷ []
-iterators_of bs (iterations.Two a b) = iterator_of bs a ∷ iterator_of bs b ∷ []
-iterators_of bs (iterations.Three a b c) = iterator_of bs a ∷ iterator_of bs b ∷ iterator_of bs c ∷ []
+-- the items that slots hold
+abbrev pub held : {T : Type 0} → List (Option T) → List T
+held [] = []
+held (None ∷ xs) = held xs
+held (Some x ∷ xs) = x ∷ held xs
+
+abbrev pub items : {T : Type 0} {n : ℕ} → Few T n → List T
+items f = f.first ∷ held f.more
+
+abbrev pub iterators_of : List ℕ → Few Iteration 2 → List Iterator
+iterators_of bs is = map (iterator_of bs) (items is)
 
 -- a `$` word is told at its `$`, the byte before the word
 abbrev pub bound_of : List ℕ → Binding → tree.Binding
 bound_of bs b = record { word = spelt bs b.word; word_place = b.word.place - 1; coverage = spelt bs b.coverage; coverage_place = b.coverage.place }
 
-abbrev pub all_bound : List ℕ → Bindings → List tree.Binding
-all_bound bs (bindings.One a) = bound_of bs a ∷ []
-all_bound bs (bindings.Two a b) = bound_of bs a ∷ bound_of bs b ∷ []
-all_bound bs (bindings.Three a b c) = bound_of bs a ∷ bound_of bs b ∷ bound_of bs c ∷ []
-all_bound bs (bindings.Four a b c d) = bound_of bs a ∷ bound_of bs b ∷ bound_of bs c ∷ bound_of bs d ∷ []
+abbrev pub all_bound : List ℕ → Few Binding 3 → List tree.Binding
+all_bound bs cs = map (bound_of bs) (items cs)
 
 -- the tree of node k, where the trees of earlier nodes are es
 abbrev pub tree_at : List Expr → ℕ → Expr
@@ -106,10 +108,8 @@ Earlier k (construct.Form is a) = a < k
 abbrev pub SmallIteration : Iteration → Type 0
 SmallIteration i = (neg_ℤ (pos 2147483647) ≤ℤ i.range.lo) × (i.range.hi ≤ℤ pos 2147483647)
 
-abbrev pub SmallIterations : Iterations → Type 0
-SmallIterations (iterations.One a) = SmallIteration a
-SmallIterations (iterations.Two a b) = SmallIteration a × SmallIteration b
-SmallIterations (iterations.Three a b c) = SmallIteration a × SmallIteration b × SmallIteration c
+abbrev pub SmallIterations : Few Iteration 2 → Type 0
+SmallIterations is = All SmallIteration (items is)
 
 -- numerals and ends of ranges of iterators reach no further than 2147483647 on both sides
 abbrev pub SmallConstruct : Construct → Type 0

@@ -1,4 +1,5 @@
 use coverage::{Axis, Range};
+use std::alloc::AllocError;
 use syntax::{Binary, Fold, Reduce, Unary};
 
 /// A part of the text: the byte at which it begins, and its length.
@@ -7,6 +8,20 @@ pub struct Part {
     pub place: usize,
     pub length: usize,
 }
+
+/// An item, and at most so many more, which stand in the first slots.
+pub struct Few<T, const MORE: usize> {
+    pub first: T,
+    pub more: [Option<T>; MORE],
+}
+
+impl<T: Copy, const MORE: usize> Clone for Few<T, MORE> {
+    fn clone(&self) -> Result<Self, AllocError> {
+        Ok(*self)
+    }
+}
+
+impl<T: Copy, const MORE: usize> Copy for Few<T, MORE> {}
 
 /// An iterator of a form: its word, its axis, and the coordinates that it goes through.
 #[derive(Clone, Copy)]
@@ -17,12 +32,7 @@ pub struct Iteration {
 }
 
 /// The iterators of a form: one to three.
-#[derive(Clone, Copy)]
-pub enum Iterations {
-    One(Iteration),
-    Two(Iteration, Iteration),
-    Three(Iteration, Iteration, Iteration),
-}
+pub type Iterations = Few<Iteration, 2>;
 
 /// A binding: the word after the `$`, which stands just before it, and the name of the coverage.
 #[derive(Clone, Copy)]
@@ -32,13 +42,7 @@ pub struct Binding {
 }
 
 /// The bindings of a query: one to four.
-#[derive(Clone, Copy)]
-pub enum Bindings {
-    One(Binding),
-    Two(Binding, Binding),
-    Three(Binding, Binding, Binding),
-    Four(Binding, Binding, Binding, Binding),
-}
+pub type Bindings = Few<Binding, 3>;
 
 /// The constructs of an expression. Operands are told by the number of their node, in the order of the
 /// text; a subset entry has first what it is applied to. The mark of an entry says that its axis stands

@@ -1,44 +1,14 @@
-use Rattle.std.proofs.Common.{[], ◌∷◌, ◌∙◌, arith}
-use Rattle.std.proofs.lemmas.Result.{err_from_is_err_and}
-use Rattle.parser.specs.declared.node.Iterations.TheVariants.{One, Two, Three}
-use Rattle.parser.proofs.Commas.{last_iterator, next_iterator}
+use Rattle.std.proofs.Common.{refl}
+use Rattle.parser.specs.Actions.{iteration, iterations_of}
+use Rattle.parser.specs.Machine.{iterator, iterators}
+use Rattle.parser.specs.Reads.{GoesOn}
+use Rattle.parser.specs.Lists.{IteratorRead}
+use Rattle.parser.proofs.Commas.{next_iterator, last_iterator}
+use Rattle.parser.proofs.Several.{by_calls, several_go, several_read}
 use Rattle.parser.proofs.lists.iterators.Goals as goal
 
-pub returns-in_err-a-clause-read : goal.returns-in_err-a-clause-read
-returns-in_err-a-clause-read c =
-    let x = err_from_is_err_and c.from_residual.result c.from_residual.ensures.1 in
-    rw (x.1, x.2) (λ h s st. c.in_err-a.ensures.read 2 h ([]) s st)
-
-pub returns-in_err-b-clause-read : goal.returns-in_err-b-clause-read
-returns-in_err-b-clause-read c =
-    let x = err_from_is_err_and c.from_residual-in_err-b.result c.from_residual-in_err-b.ensures.1 in
-    rw (x.1, x.2) (λ h s st. c.in_ok-a.ensures.read.turns 2 h ([]) s st ∙ next_iterator c.if-not-eat.ensures.read 1 h (c.in_ok-a.ensures.read.what ∷ []) s st ∙ c.in_err-b.ensures.read 1 h (c.in_ok-a.ensures.read.what ∷ []) s st)
-
-pub returns-in_err-c-clause-read : goal.returns-in_err-c-clause-read
-returns-in_err-c-clause-read c =
-    let x = err_from_is_err_and c.from_residual-in_err-c.result c.from_residual-in_err-c.ensures.1 in
-    rw (x.1, x.2) (λ h s st. c.in_ok-a.ensures.read.turns 2 h ([]) s st ∙ next_iterator c.if-not-eat.ensures.read 1 h (c.in_ok-a.ensures.read.what ∷ []) s st ∙ c.in_ok-b.ensures.read.turns 1 h (c.in_ok-a.ensures.read.what ∷ []) s st ∙ next_iterator c.if-not-eat-2.ensures.read 0 h (c.in_ok-a.ensures.read.what ∷ c.in_ok-b.ensures.read.what ∷ []) s st ∙ c.in_err-c.ensures.read 0 h (c.in_ok-a.ensures.read.what ∷ c.in_ok-b.ensures.read.what ∷ []) s st)
-
-pub returns-then-not-eat-clause-read : goal.returns-then-not-eat-clause-read
-returns-then-not-eat-clause-read c = record {
-  what = c.in_ok-a.ensures.read.what ∷ [];
-  same = λ i. One (c.in_ok-a.ensures.read.same i);
-  forward = omega (arith, c.in_ok-a.ensures.read.forward);
-  turns = λ h s st. c.in_ok-a.ensures.read.turns 2 h ([]) s st ∙ last_iterator _ _ c.if-not-eat.ensures.read 2 h (c.in_ok-a.ensures.read.what ∷ []) s st;
-}
-
-pub returns-then-not-eat-2-clause-read : goal.returns-then-not-eat-2-clause-read
-returns-then-not-eat-2-clause-read c = record {
-  what = c.in_ok-a.ensures.read.what ∷ c.in_ok-b.ensures.read.what ∷ [];
-  same = λ i. Two (c.in_ok-a.ensures.read.same i) (c.in_ok-b.ensures.read.same i);
-  forward = omega (arith, c.in_ok-a.ensures.read.forward, c.in_ok-b.ensures.read.forward, c.eat.ensures.on.forward);
-  turns = λ h s st. c.in_ok-a.ensures.read.turns 2 h ([]) s st ∙ next_iterator c.if-not-eat.ensures.read 1 h (c.in_ok-a.ensures.read.what ∷ []) s st ∙ c.in_ok-b.ensures.read.turns 1 h (c.in_ok-a.ensures.read.what ∷ []) s st ∙ last_iterator _ _ c.if-not-eat-2.ensures.read 1 h (c.in_ok-a.ensures.read.what ∷ c.in_ok-b.ensures.read.what ∷ []) s st;
-}
+pub returns-clause-on : goal.returns-clause-on
+returns-clause-on c = several_go _ (by_calls _ _ (λ a b r. GoesOn a b) (λ x y r m. m.0)) 2 _ _ _ c.several.ensures
 
 pub returns-clause-read : goal.returns-clause-read
-returns-clause-read c = record {
-  what = c.in_ok-a.ensures.read.what ∷ c.in_ok-b.ensures.read.what ∷ c.in_ok-c.ensures.read.what ∷ [];
-  same = λ i. Three (c.in_ok-a.ensures.read.same i) (c.in_ok-b.ensures.read.same i) (c.in_ok-c.ensures.read.same i);
-  forward = omega (arith, c.in_ok-a.ensures.read.forward, c.in_ok-b.ensures.read.forward, c.in_ok-c.ensures.read.forward, c.eat.ensures.on.forward, c.eat-2.ensures.on.forward);
-  turns = λ h s st. c.in_ok-a.ensures.read.turns 2 h ([]) s st ∙ next_iterator c.if-not-eat.ensures.read 1 h (c.in_ok-a.ensures.read.what ∷ []) s st ∙ c.in_ok-b.ensures.read.turns 1 h (c.in_ok-a.ensures.read.what ∷ []) s st ∙ next_iterator c.if-not-eat-2.ensures.read 0 h (c.in_ok-a.ensures.read.what ∷ c.in_ok-b.ensures.read.what ∷ []) s st ∙ c.in_ok-c.ensures.read.turns 0 h (c.in_ok-a.ensures.read.what ∷ c.in_ok-b.ensures.read.what ∷ []) s st;
-}
+returns-clause-read c = several_read iteration iterator iterators _ (by_calls _ _ (λ a b r. GoesOn a b) (λ x y r m. m.0)) (by_calls _ _ IteratorRead (λ x y r m. m.1)) next_iterator last_iterator 2 iterations_of (λ x xs. refl) _ _ _ c.several.ensures

@@ -15,7 +15,8 @@ use Rattle.lexer.specs.declared.token.Lexed.{Lexed}
 use Rattle.syntax.specs.Tree.{Word}
 use Rattle.syntax.specs.declared.Fold.{Fold}
 use Rattle.parser.specs.declared.node.Construct.TheVariants as construct
-use Rattle.parser.specs.declared.node.Iterations.{Iterations}
+use Rattle.parser.specs.declared.node.Few.{Few}
+use Rattle.parser.specs.declared.node.Iteration.{Iteration}
 use Rattle.parser.specs.declared.node.Part.{Part}
 use Rattle.parser.specs.declared.parser.Done.{Done}
 use Rattle.parser.specs.declared.parser.Parser.{Parser}
@@ -25,7 +26,8 @@ use Rattle.parser.specs.Axes.{Seen, axis_of, none_seen, holds, marks}
 use Rattle.parser.specs.Roles.{is, operator_of, opening, fold_of, word_of}
 use Rattle.parser.specs.Actions.{Placing, Val, St, state, build, join, deeper, applied, spanning, prefix, condense, pick, cover}
 use Rattle.parser.specs.Machine.{Item, moved, given, when, begins, levels, ladder, again, tail, operand, subsets, entry, entries, arg, must, acts, expr, sign, any_word, iterators, iterating2, condensing, covering, pops, opened, onward, refused}
-use Rattle.parser.specs.Reads.{on, Taken, Eaten, Passes, AllIterators, Climbs, as_word}
+use Rattle.parser.specs.Reads.{on, Taken, Eaten, Passes, Climbs, as_word}
+use Rattle.parser.specs.Lists.{AllIterators}
 use Rattle.parser.specs.Parsed.{due, stands, opens, Parsed, Opens, OpenedRead}
 use Rattle.parser.proofs.See.{arm, arm_to, alike, turn, beyond, level, done}
 use Rattle.parser.proofs.Limits.{same_want}
@@ -83,7 +85,7 @@ expr-returns-in_default-expect-clause-read t c =
 -- ---- condense forms
 
 -- the sign, `over` and the iterators
-gathers : (p : ℕ) {a b d e : Cursor} {f : Fold} {is : Iterations} → Taken Fold Fold fold_of (λ f p. f) a b f → Passes (must the.Over ∷ []) [] b d → (i : AllIterators d e is) → (s : List Item) (st : St) → on a (sign p ∷ s) st ≡ on e (iterators 0 (condensing p f) i.what ∷ s) st
+gathers : (p : ℕ) {a b d e : Cursor} {f : Fold} {is : Few Iteration 2} → Taken Fold Fold fold_of (λ f p. f) a b f → Passes (must the.Over ∷ []) [] b d → (i : AllIterators d e is) → (s : List Item) (st : St) → on a (sign p ∷ s) st ≡ on e (iterators 0 (condensing p f) i.what ∷ s) st
 gathers p {f = f} h o i s st = took_it h _ (λ f _. iterating2 (condensing p f) s) (λ _ _ _. refl) st ∙ o.turns _ st ∙ i.turns (condensing p f) s st
 
 -- without `where`, `using` is due
@@ -164,7 +166,7 @@ condense-returns-in_ok-body-2-clause-read t c =
 -- ---- coverage forms
 
 -- the word, `over` and the iterators, after which `values` is due
-covers : (p : ℕ) {a b d e : Cursor} {w : Part} {is : Iterations} → Taken Word Part word_of as_word a b w → Passes (must the.Over ∷ []) [] b d → (i : AllIterators d e is) → (s : List Item) (st : St) → on a (any_word ∷ iterating2 (covering p) s) st ≡ on e (must the.Values ∷ expr ∷ acts (cover p i.what) ∷ s) st
+covers : (p : ℕ) {a b d e : Cursor} {w : Part} {is : Few Iteration 2} → Taken Word Part word_of as_word a b w → Passes (must the.Over ∷ []) [] b d → (i : AllIterators d e is) → (s : List Item) (st : St) → on a (any_word ∷ iterating2 (covering p) s) st ≡ on e (must the.Values ∷ expr ∷ acts (cover p i.what) ∷ s) st
 covers p h o i s st = took h _ (λ _ _. iterating2 (covering p) s) (λ _ _ _. refl) st ∙ o.turns _ st ∙ i.turns (covering p) s st ∙ level build _ _ _ _ _ _ (λ _. refl) (λ _ _. refl)
 
 pub form-returns-in_err-take_word-clause-read : goal.form-returns-in_err-take_word-clause-read
