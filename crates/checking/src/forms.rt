@@ -30,9 +30,10 @@ pub fn iterators_rule(fresh: bool, reach: Reach, place: usize) -> Result<Domain,
     ensures { (g : Ranges) (is : List Iterator) → Goes is reach → fresh ≡ new_words is g → told_domain result ≡ iterators_rule g is place }
 {
     ensure(fresh, CheckFault::Unbound(place))?;
-    let domain = reach.ok_or(CheckFault::Outside(place))?;
-    ensure(domain.cells() < TOO_MANY, CheckFault::ManyCells(place))?;
-    Ok(domain)
+    ensure(reach.own, CheckFault::Outside(place))?;
+    let few = reach.domain.cells() < TOO_MANY;
+    ensure(few, CheckFault::ManyCells(place))?;
+    Ok(reach.domain)
 }
 
 /// Whether the body of a condense form fits: of the kind that the operator takes, without axes.

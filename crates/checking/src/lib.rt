@@ -25,6 +25,6 @@ pub use laws::trees_go_by_the_rules;
 pub use leaves::{iterator_rule, name_rule, numeral_rule, truth_rule};
 pub use operators::{binary_rule, reduce_rule, unary_rule};
 pub use query::query_rule;
-pub use reach::{Reach, preceded_by, reach_of_none};
+pub use reach::Reach;
 pub use subsets::{slice_rule, trim_rule};
 pub use typed::Typed;

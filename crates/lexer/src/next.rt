@@ -5,7 +5,7 @@ ghost use Rattle.lexer.specs.Tokens.{tok, bad, seen};
 ghost use Rattle.lexer.specs.Lexing.{cut, mark_token, pair_token, word_at, variable_at, numeral_at, rows_at, mark_at, token_at};
 ghost use Rattle.lexer.specs.Toks.{Peeked};
 
-use crate::numeral::value;
+use crate::numeral::small_value;
 use crate::reserved::word_token;
 use crate::symbol::Symbol;
 use crate::token::{Lexed, Token};
@@ -48,7 +48,7 @@ fn numeral<'a>(from: &mut Cursor<'a>) -> Token<'a>
     ensures token { seen (tok result) from.old.at from.new.at ≡ numeral_at from.old.text.now from.old.at }
 {
     let digits = from.run(|b| b.is_ascii_digit());
-    match value(digits) {
+    match small_value(digits) {
         Some(n) => Token::Numeral(digits, n),
         None => Token::Bad,
     }

@@ -1,6 +1,6 @@
 -- The tree that a table of nodes stands for. A node's operands stand before it.
 use Rattle.std.specs.Prelude.{◌≡◌, ℕ, ◌+◌, ◌-◌, ◌<◌, ◌≤◌, List, [], ◌∷◌, ◌++◌, map, take, drop, pos, neg_ℤ, ◌≤ℤ◌, Some, None, Option, slice_index_or}
-use Rattle.std.specs.List.{AllByRecursion as All}
+use Rattle.std.specs.List.{AllByRecursion}
 use Rattle.syntax.specs.Tree.{Word, Iterator, Expr, Query}
 use Rattle.syntax.specs.Tree as tree
 use Rattle.parser.specs.declared.node.Part.{Part}
@@ -109,7 +109,7 @@ abbrev pub SmallIteration : Iteration → Type 0
 SmallIteration i = (neg_ℤ (pos 2147483647) ≤ℤ i.range.lo) × (i.range.hi ≤ℤ pos 2147483647)
 
 abbrev pub SmallIterations : Few Iteration 2 → Type 0
-SmallIterations is = All SmallIteration (items is)
+SmallIterations is = AllByRecursion SmallIteration (items is)
 
 -- numerals and ends of ranges of iterators reach no further than 2147483647 on both sides
 abbrev pub SmallConstruct : Construct → Type 0

@@ -1,6 +1,6 @@
 use Rattle.std.proofs.Common.{◌∙◌, arith}
 use Rattle.lexer.proofs.Decimals.{too_large}
-use Rattle.lexer.proofs.numeral.value.Goals as goal
+use Rattle.lexer.proofs.numeral.small_value.Goals as goal
 
 pub returns-in_err-checked_mul : goal.returns-in_err-checked_mul
 returns-in_err-checked_mul c =
