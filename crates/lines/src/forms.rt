@@ -9,8 +9,8 @@ ghost use Rattle.lines.specs.Says.{AxisSays, Bounds, CountSays, KindSays, Said};
 
 use crate::command::Command;
 use crate::grids::{Axes, Sort};
-use crate::numeral::range_of;
-use crate::pieces::{count, last, literal, name, number, numeral, numerals, query};
+use crate::numeral::{count_of, range_of};
+use crate::pieces::{count, digits, last, literal, name, number, numeral, numerals, query};
 use coverage::{Domain, Kind, Point, Range};
 use cursor::Cursor;
 
@@ -73,14 +73,15 @@ fn strip<'a>(line: &'a [u8], has_cells: bool) -> Result<Command<'a>, usize>
 {
     let mut from = Cursor::new(line);
     literal(&mut from, b"(strip ")?;
-    let coverage = count(&mut from)?;
+    let coverage = digits(&mut from)?;
     literal(&mut from, b" ")?;
-    let strip = count(&mut from)?;
+    let strip = digits(&mut from)?;
     literal(&mut from, b" (")?;
     let cells = if has_cells { numerals(&mut from)? } else { &[] };
     literal(&mut from, b")")?;
     last(&mut from)?;
-    Ok(Command::Strip(coverage, strip, cells))
+    // Both shapes are read of each line: only the one that the line has works its counts out.
+    Ok(Command::Strip(count_of(coverage), count_of(strip), cells))
 }
 
 /// `(look C X Y T)`.

@@ -2,15 +2,19 @@
 use Rattle.std.specs.Prelude.{◌≡◌, ℕ, ◌+◌, ◌<◌, ◌≤◌, Bool, true, false, List, [], ◌∷◌, ◌++◌, length, Some, None, Ok, Err, Option, Result, ℤ, cond}
 use Rattle.coverage.specs.declared.axis.Axis.{Axis}
 use Rattle.cursor.specs.declared.cursor.Cursor.{Cursor}
+pub use Rattle.cursor.specs.Moves.{GoesOn}
 use Rattle.syntax.specs.Tree.{Word, Binding}
 use Rattle.syntax.specs.declared.Fold.{Fold}
 use Rattle.lexer.specs.declared.symbol.Symbol.{Symbol}
 use Rattle.lexer.specs.declared.symbol.Symbol.TheVariants.{Close}
+use Rattle.lexer.specs.declared.symbol.Symbol.TheVariants as the
 use Rattle.lexer.specs.declared.token.Lexed.{Lexed}
 use Rattle.lexer.specs.Tokens.{Tok, tok}
 use Rattle.lexer.specs.Toks.{Placed, toks, consed, is_end, Peeked}
 use Rattle.parser.specs.declared.node.Part.{Part}
 use Rattle.parser.specs.declared.roles.Operator.{Operator}
+use Rattle.parser.specs.declared.take.Start.{Start}
+use Rattle.parser.specs.declared.take.Start.TheVariants.{Condense, Coverage, Chain}
 use Rattle.parser.specs.Roles.{is, operator_of, between}
 use Rattle.parser.specs.Actions.{St, spanning, part, build, slice}
 use Rattle.parser.specs.Machine.{Item, Use, Edge, upper, trims, used, Verdict, accepted, refused, ends, verdict, must, bound, follows, arg, expr, acts}
@@ -18,11 +22,6 @@ use Rattle.parser.specs.Machine.{Item, Use, Edge, upper, trims, used, Verdict, a
 -- what comes of a stack and a state from a place on
 abbrev pub on : Cursor → List Item → St → Verdict St
 on c s st = verdict build (length c.text.now) s st (toks c.text.now c.at)
-
--- further on in the same text
-pub record GoesOn (old new : Cursor) : Type 0 where
-  pub text : new.text.now ≡ old.text.now
-  pub forward : old.at ≤ new.at
 
 -- ---- single tokens
 
@@ -37,6 +36,12 @@ pub record Eaten (w : Symbol) (old new : Cursor) (r : Bool) : Type 0 where
 abbrev pub Stood : Symbol → Cursor → Cursor → Result ℕ ℕ → Type 0
 Stood w old new (Ok p) = (e : Eaten w old new true) × (e.next.place ≡ p)
 Stood w old new (Err p) = (e : Eaten w old new false) × (e.next.place ≡ p)
+
+-- an expression begins with the word of a form, which was passed, or as a chain
+abbrev pub Starts : Cursor → Cursor → Start → Type 0
+Starts old new (Condense p) = (e : Eaten the.Condense old new true) × (e.next.place ≡ p)
+Starts old new (Coverage p) = (e : Eaten the.Coverage old new true) × (e.next.place ≡ p)
+Starts old new Chain = (e : Eaten the.Coverage old new false) × (is the.Condense (tok e.next.token) ≡ false)
 
 -- the next token is one that f reads
 pub record Taken (A R : Type 0) (f : Tok → Option A) (keep : A → ℕ → R) (old new : Cursor) (r : R) : Type 0 where

@@ -8,7 +8,9 @@ use crate::lists::iterators;
 use crate::node::{Construct, Part};
 use crate::parser::{Done, Parser};
 use crate::roles::{Function, Opening, Operator, opening_of, operator_of};
-use crate::take::{eat, expect, lower_end, next, take_axis, take_sign, take_word, upper_end};
+use crate::take::{
+    Start, eat, expect, lower_end, next, take_axis, take_sign, take_start, take_word, upper_end,
+};
 use coverage::{Axis, PerAxis, Range};
 use cursor::Cursor;
 use lexer::{Symbol, Token, peek};
@@ -66,17 +68,16 @@ impl Parser<'_, '_> {
         ensures keeps { Keeps self.old self.new }
         ensures read { Parsed (expr_item ∷ []) [] self.old self.new result }
     {
-        if let Ok(place) = expect(&mut self.from, Symbol::Condense) {
-            self.condense(place)
-        } else if let Ok(place) = expect(&mut self.from, Symbol::Coverage) {
-            self.form(place)
-        } else {
-            self.chain(LEVELS)
+        match take_start(&mut self.from) {
+            Start::Condense(place) => self.condense(place),
+            Start::Coverage(place) => self.form(place),
+            Start::Chain => self.chain(LEVELS),
         }
     }
 
     // What follows the word `condense`, which stands at `place`.
     #[cycle(expression)]
+    #[inline(never)]
     fn condense(&mut self, place: usize) -> Result<Done, usize>
         ensures keeps { Keeps self.old self.new }
         ensures read { Parsed (sign_item place ∷ []) [] self.old self.new result }
@@ -100,6 +101,7 @@ impl Parser<'_, '_> {
 
     // What follows the word `coverage`, which stands at `place`. The form's own word has no effect.
     #[cycle(expression)]
+    #[inline(never)]
     fn form(&mut self, place: usize) -> Result<Done, usize>
         ensures keeps { Keeps self.old self.new }
         ensures read { Parsed (any_word ∷ iterating2 (covering place) []) [] self.old self.new result }

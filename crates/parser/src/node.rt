@@ -16,6 +16,12 @@ pub struct Few<T, const MORE: usize> {
 }
 
 impl<T: Copy, const MORE: usize> Clone for Few<T, MORE> {
+    ghost use Rattle.std.specs.Prelude.{◌≡◌, ⊤};
+
+    ghost is_clone = { λ x y. y ≡ x };
+
+    ghost is_infallible = { λ _. ⊤ };
+
     fn clone(&self) -> Result<Self, AllocError> {
         Ok(*self)
     }

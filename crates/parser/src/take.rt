@@ -1,11 +1,11 @@
-ghost use Rattle.std.specs.Prelude.{◌≡◌, ◌<◌, Some, None, IfOk, IfErr};
+ghost use Rattle.std.specs.Prelude.{◌≡◌, ◌<◌, ◌≤◌, Some, None, IfOk, IfErr, unsigned_abs};
 ghost use Rattle.std.specs.Option.{option_map};
 ghost use Rattle.lexer.specs.Tokens.{tok};
 ghost use Rattle.lexer.specs.Toks.{Peeked};
 ghost use Rattle.lexer.specs.declared.token.Lexed.{Lexed as ALexed};
 ghost use Rattle.parser.specs.Axes.{axis_of};
 ghost use Rattle.parser.specs.Roles.{fold_of, number_of, word_of, variable_of};
-ghost use Rattle.parser.specs.Reads.{GoesOn, Stood, Expected, Eaten, Ended, TakenAs, as_axis, as_fold, as_number, as_word, as_variable, LimitRead, Ahead, RangeEnds};
+ghost use Rattle.parser.specs.Reads.{GoesOn, Stood, Starts, Expected, Eaten, Ended, TakenAs, as_axis, as_fold, as_number, as_word, as_variable, LimitRead, Ahead, RangeEnds};
 
 use crate::node::Part;
 use crate::roles::fold_of;
@@ -53,6 +53,7 @@ fn take<'t, T, F: Fn(Lexed<'t>) -> Option<T>>(from: &mut Cursor<'t>, read: F) ->
     ensures on { GoesOn from.old from.new }
     ensures taken { IfOk result (λ v. (t : ALexed) × Peeked from.old.text.now from.old.at t × F.post read t (Some v) × (from.new ≡ t.next)) }
     ensures missed { IfErr result (λ p. (t : ALexed) × Peeked from.old.text.now from.old.at t × F.post read t None × (t.place ≡ p)) }
+    ensures stays { IfErr result (λ _. from.new ≡ from.old) }
 {
     let t = peek(from);
     let Some(taken) = read(t) else {
@@ -85,6 +86,32 @@ pub(crate) fn eat(from: &mut Cursor<'_>, symbol: Symbol) -> bool
     expect(from, symbol).is_ok()
 }
 
+/// How an expression begins: with the word of a form, which stands at a place, or as a chain.
+#[derive(Clone, Copy)]
+pub(crate) enum Start {
+    Condense(usize),
+    Coverage(usize),
+    Chain,
+}
+
+// One look for both words: what comes next may be long, or stand behind many blanks.
+/// Goes past the word of a form if it comes next, and answers how the expression begins.
+pub(crate) fn take_start(from: &mut Cursor<'_>) -> Start
+    ensures on { GoesOn from.old from.new }
+    ensures read { Starts from.old from.new result }
+{
+    let t = peek(from);
+    if t.token == Token::Symbol(Symbol::Condense) {
+        *from = t.next;
+        Start::Condense(t.place)
+    } else if t.token == Token::Symbol(Symbol::Coverage) {
+        *from = t.next;
+        Start::Coverage(t.place)
+    } else {
+        Start::Chain
+    }
+}
+
 /// Takes the end of the text.
 pub(crate) fn take_end(from: &mut Cursor<'_>) -> Result<(), usize>
     ensures on { GoesOn from.old from.new }
@@ -101,6 +128,7 @@ pub(crate) fn take_end(from: &mut Cursor<'_>) -> Result<(), usize>
 pub fn take_axis(from: &mut Cursor<'_>) -> Result<Axis, usize>
     ensures on { GoesOn from.old from.new }
     ensures read { TakenAs axis_of as_axis from.old from.new result }
+    ensures stays { IfErr result (λ _. from.new ≡ from.old) }
 {
     take(from, |t| axis_of(t.token))
 }
@@ -109,6 +137,7 @@ pub fn take_axis(from: &mut Cursor<'_>) -> Result<Axis, usize>
 pub fn take_word(from: &mut Cursor<'_>) -> Result<Part, usize>
     ensures on { GoesOn from.old from.new }
     ensures read { TakenAs word_of as_word from.old from.new result }
+    ensures stays { IfErr result (λ _. from.new ≡ from.old) }
 {
     take(from, |t| match t.token {
         Token::Word(w) => Some(Part {
@@ -137,6 +166,7 @@ fn after_dollar(t: Lexed<'_>) -> Option<Part>
 pub fn take_variable(from: &mut Cursor<'_>) -> Result<Part, usize>
     ensures on { GoesOn from.old from.new }
     ensures read { TakenAs variable_of as_variable from.old from.new result }
+    ensures stays { IfErr result (λ _. from.new ≡ from.old) }
 {
     take(from, after_dollar)
 }
@@ -145,6 +175,7 @@ pub fn take_variable(from: &mut Cursor<'_>) -> Result<Part, usize>
 pub fn take_sign(from: &mut Cursor<'_>) -> Result<Fold, usize>
     ensures on { GoesOn from.old from.new }
     ensures read { TakenAs fold_of as_fold from.old from.new result }
+    ensures stays { IfErr result (λ _. from.new ≡ from.old) }
 {
     take(from, |t| match t.token {
         Token::Symbol(s) => fold_of(s),
@@ -156,6 +187,7 @@ pub fn take_sign(from: &mut Cursor<'_>) -> Result<Fold, usize>
 pub fn take_number(from: &mut Cursor<'_>) -> Result<u32, usize>
     ensures on { GoesOn from.old from.new }
     ensures read { TakenAs number_of as_number from.old from.new result }
+    ensures stays { IfErr result (λ _. from.new ≡ from.old) }
 {
     take(from, |t| number_of(t.token))
 }
@@ -164,6 +196,7 @@ pub fn take_number(from: &mut Cursor<'_>) -> Result<u32, usize>
 pub fn take_limit(from: &mut Cursor<'_>) -> Result<i64, usize>
     ensures on { GoesOn from.old from.new }
     ensures read { LimitRead from.old from.new result }
+    ensures small { IfOk result (λ v. unsigned_abs v ≤ 4294967295) }
 {
     let minus = eat(from, Symbol::Minus);
     let size = i64::from(take_number(from)?);

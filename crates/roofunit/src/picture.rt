@@ -1,8 +1,8 @@
 // The picture of a coverage: a row a line, the highest y first, a heading before the rows of each t.
-ghost use Rattle.std.specs.Prelude.{◌≡◌, IfOk, string_bytes};
+ghost use Rattle.std.specs.Prelude.{◌≡◌, ◌++◌, IfOk, string_bytes};
 ghost use Rattle.roofunit.specs.Picture.{column, shown};
 
-use coverage::range::coordinates;
+use coverage::range::{coordinates, lowest};
 use coverage::{Description, Domain, Kind, Point};
 use shelf::Shelf;
 use std::alloc::{AllocError, Global};
@@ -24,15 +24,25 @@ fn cell_text(heap: Global, cell: Option<i32>) -> Result<String, AllocError>
     }
 }
 
-/// Text at the right end of a column.
-fn column_of(heap: Global, text: &str, width: usize) -> Result<String, AllocError>
-    ensures { IfOk result (λ s. string_bytes s ≡ column width text.now) }
+/// Puts text after what is drawn, at the right end of a column.
+fn push_column(picture: &mut String, text: &str, width: usize) -> Result<(), AllocError>
+    ensures { IfOk result (λ _. string_bytes picture.new ≡ string_bytes picture.old ++ column width text.now) }
 {
-    let mut column = " ".repeat(heap, width.saturating_sub(text.len()))?;
-    column.push_str(text)?;
-    Ok(column)
+    for _k in 0..width.saturating_sub(text.len()) {
+        picture.push_str(" ")?;
+    }
+    picture.push_str(text)
 }
 
+/// Ends the line that stands last in a picture, if there is one: no line is empty.
+fn start_line(picture: &mut String) -> Result<(), AllocError> {
+    if !picture.is_empty() {
+        picture.push_str("\n")?;
+    }
+    Ok(())
+}
+
+// One text grows cell by cell: lists of cells and lines, to be joined, would hold the picture several times over.
 /// A coverage as it is drawn.
 #[derive(Drop)]
 struct View<'s, S> {
@@ -44,29 +54,34 @@ struct View<'s, S> {
 }
 
 impl<S: Shelf> View<'_, S> {
-    /// A cell in its column.
-    fn cell(&self, at: Point) -> Result<String, AllocError> {
+    /// Draws a cell in its column.
+    fn draw_cell(&self, picture: &mut String, at: Point) -> Result<(), AllocError> {
         let cell = self.shelf.look(self.coverage, at).unwrap_or(None);
         let text = cell_text(self.heap, cell)?;
-        column_of(self.heap, text.as_str(), self.width)
+        push_column(picture, text.as_str(), self.width)
     }
 
-    /// The cells of a row, with a blank between columns.
-    fn row(&self, y: i64, t: i64) -> Result<String, AllocError> {
-        let mut cells = Vec::new(self.heap);
+    /// Draws the cells of a row, with a blank between columns.
+    fn draw_row(&self, picture: &mut String, y: i64, t: i64) -> Result<(), AllocError> {
         for x in coordinates(self.domain.x) {
-            cells.push(self.cell(Point { x, y, t })?)?;
+            if x > lowest(self.domain.x) {
+                picture.push_str(" ")?;
+            }
+            self.draw_cell(picture, Point { x, y, t })?;
         }
-        cells.join(self.heap, " ")
+        Ok(())
     }
 
-    /// The lines at one t: a heading where there is more than the rows, and the rows, the highest y first.
-    fn push_lines(&self, lines: &mut Vec<String>, t: i64) -> Result<(), AllocError> {
+    /// Draws the lines at one t: a heading where there is more than the rows, and the rows, the highest y first.
+    fn draw_lines(&self, picture: &mut String, t: i64) -> Result<(), AllocError> {
         if self.domain.t.is_some() {
-            lines.push(format!(in self.heap; "t {t}")?)?;
+            start_line(picture)?;
+            let heading = format!(in self.heap; "t {t}")?;
+            picture.push_str(heading.as_str())?;
         }
         for y in coordinates(self.domain.y).rev() {
-            lines.push(self.row(y, t)?)?;
+            start_line(picture)?;
+            self.draw_row(picture, y, t)?;
         }
         Ok(())
     }
@@ -86,9 +101,9 @@ pub fn picture<S: Shelf>(
         domain: about.domain,
         width: column_width(heap, about.kind)?,
     };
-    let mut lines = Vec::new(heap);
+    let mut picture = String::new(heap);
     for t in coordinates(about.domain.t) {
-        view.push_lines(&mut lines, t)?;
+        view.draw_lines(&mut picture, t)?;
     }
-    lines.join(heap, "\n")
+    Ok(picture)
 }

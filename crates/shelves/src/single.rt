@@ -58,6 +58,7 @@ impl<C: Cells> Shelf for Single<C> {
         about.name.is(name).then_some(0)
     }
 
+    #[inline(always)]
     fn look(&self, coverage: usize, at: Point) -> Result<Option<i32>, ShelfFault> {
         let about = reach(self.about, coverage, at)?;
         Ok(self.cells.cell(about, at))

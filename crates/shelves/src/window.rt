@@ -58,13 +58,16 @@ pub fn make_window<'w, S: Shelf>(below: &'w mut S, coverage: usize, cut: Cut) ->
 
 impl<'w, S: Shelf> Window<'w, S> {
     /// What a call under a number sees; the window's coverage has number 0.
+    #[inline(always)]
     fn seen(&self, coverage: usize, strip: usize) -> Result<View, ShelfFault>
         ensures { result ≡ seen_under (view_on (slice_get (S.Shelf.meaning self.now.below.now) self.now.coverage) self.now.coverage self.now.cut) coverage strip }
     {
-        view(self.below, self.coverage, self.cut)
-            .ok()
-            .filter(|_| coverage == 0)
-            .ok_or(ShelfFault::NoCoverage { coverage, strip })
+        // The number first: for another than 0 nothing below is asked.
+        let none = ShelfFault::NoCoverage { coverage, strip };
+        if coverage != 0 {
+            return Err(none);
+        }
+        view(self.below, self.coverage, self.cut).map_err(|_| none)
     }
 }
 

@@ -7,11 +7,11 @@ use Rattle.lines.proofs.pieces.digits.Goals.{After-run-digits}
 run : (c : After-run-digits) → Run is_digit c.run-digits.result.now c.args.from.now c.run-digits.new.self
 run c = record { text = c.run-digits.ensures.text; part = c.run-digits.ensures.run; bytes = c.run-digits.ensures.rest; end = c.run-digits.ensures.by_test is_digit (λ b r h k. search rules) }
 
-pub returns-then-is_empty : goal.returns-then-is_empty
-returns-then-is_empty c = no_digits (run (goal.at.returns-then-is_empty c).After-run-digits) (grind arith)
+pub returns-then-is_empty-clause-read : goal.returns-then-is_empty-clause-read
+returns-then-is_empty-clause-read c = no_digits (run (goal.at.returns-then-is_empty-clause-read c).After-run-digits) (grind arith)
 
-pub returns : goal.returns
-returns c =
-    let r = run (goal.at.returns c).After-run-digits in
+pub returns-clause-read : goal.returns-clause-read
+returns-clause-read c =
+    let r = run (goal.at.returns-clause-read c).After-run-digits in
     let h : 0 < length c.run-digits.result.now = grind arith in
     (_, some_digits r h, (digits_count r h, refl))

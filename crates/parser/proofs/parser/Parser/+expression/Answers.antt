@@ -30,7 +30,6 @@ use Rattle.parser.specs.Reads.{on, Taken, Eaten, Passes, Climbs, as_word}
 use Rattle.parser.specs.Lists.{AllIterators}
 use Rattle.parser.specs.Parsed.{due, stands, opens, Parsed, Opens, OpenedRead}
 use Rattle.parser.proofs.See.{arm, arm_to, alike, turn, beyond, level, done}
-use Rattle.parser.proofs.Limits.{same_want}
 use Rattle.parser.proofs.Takes.{took, took_it, missed, found, ate, left}
 use Rattle.parser.proofs.Joins.{joins, restacked, redepthed, added}
 use Rattle.parser.proofs.Climb.{climbs, passes_over, finish_ladder, found_between, none_between}
@@ -39,20 +38,10 @@ use Rattle.parser.proofs.parser.Parser.+expression.Goals.{operand-in-Numeral, op
 
 -- ---- expressions
 
--- the next token is no condense form's word
-no_form : (a b : Cursor) {l : Lexed} → Eaten the.Condense a b false → Peeked b.text.now b.at l → is the.Condense (tok l.token) ≡ false
-no_form a b {l = l} n p = same_want the.Condense n.peeked (subst (λ (c : Cursor). Peeked c.text.now c.at l) n.moved p) n.told
-
--- a coverage form
-covering_comes : (a b : Cursor) {d : Cursor} → Eaten the.Condense a b false → (e : Eaten the.Coverage b d true) → (s : List Item) (st : St) → on a (expr ∷ s) st ≡ on d (any_word ∷ iterating2 (covering e.next.place) s) st
-covering_comes a b n e s st = ap (λ c. on c (expr ∷ s) st) (sym n.moved) ∙ ate e (expr ∷ s) st (any_word ∷ iterating2 (covering e.next.place) s) refl
-
 -- a chain
-chain_comes : (a b d : Cursor) → Eaten the.Condense a b false → Eaten the.Coverage b d false → (s : List Item) (st : St) → on a (expr ∷ s) st ≡ on d (operand ∷ (levels ++ s)) st
-chain_comes a b d n e s st =
-    let f = no_form a b n e.peeked in
-    ap (λ c. on c (expr ∷ s) st) (sym n.moved)
-    ∙ left b d e _ st (operand ∷ (levels ++ s)) (λ _. refl)
+chain_comes : (a b : Cursor) → (e : Eaten the.Coverage a b false) → is the.Condense (tok e.next.token) ≡ false → (s : List Item) (st : St) → on a (expr ∷ s) st ≡ on b (operand ∷ (levels ++ s)) st
+chain_comes a b e f s st =
+    left a b e _ st (operand ∷ (levels ++ s)) (λ _. refl)
     (λ i. cond (f i) (moved (sign e.next.place ∷ s) st) (cond (e.told i) (moved (any_word ∷ iterating2 (covering e.next.place) s) st) (begins build (tok e.next.token) e.next.place st (levels ++ s))))
 
 -- what was passed before an expression goes with it
@@ -64,23 +53,23 @@ begun x y us old mid new (Ok e) h f n g = record {
 }
 begun x y us old mid new (Err p) h f n g = λ s vs. g s vs ∙ h s vs
 
-pub expr-returns-in-Ok-clause-read : goal.expr-returns-in-Ok-clause-read
-expr-returns-in-Ok-clause-read t c =
-    let e = c.in-Ok.ensures.next.0 in
-    begun _ _ _ _ _ _ c.condense.result c.condense.ensures.read c.in-Ok.ensures.on.forward refl
-    (λ s vs. ate e (expr ∷ s) _ (sign e.next.place ∷ s) refl ∙ restacked _ _ _ (ap (λ p. sign p ∷ s) c.in-Ok.ensures.next.1))
+pub expr-returns-in-Condense-clause-read : goal.expr-returns-in-Condense-clause-read
+expr-returns-in-Condense-clause-read t c =
+    let e = c.in-Condense.ensures.read.0 in
+    begun _ _ _ _ _ _ c.condense.result c.condense.ensures.read c.in-Condense.ensures.on.forward refl
+    (λ s vs. ate e (expr ∷ s) _ (sign e.next.place ∷ s) refl ∙ restacked _ _ _ (ap (λ p. sign p ∷ s) c.in-Condense.ensures.read.1))
 
-pub expr-returns-in-Ok-expect-clause-read : goal.expr-returns-in-Ok-expect-clause-read
-expr-returns-in-Ok-expect-clause-read t c =
-    let e = c.in-Ok-expect.ensures.next.0 in
-    let n = c.in_default.ensures.next.0 in
-    begun _ _ _ _ _ _ c.form.result c.form.ensures.read (omega (arith, c.in_default.ensures.on.forward, c.in-Ok-expect.ensures.on.forward)) refl
-    (λ s vs. covering_comes _ _ n e s _ ∙ restacked _ _ _ (ap (λ p. any_word ∷ iterating2 (covering p) s) c.in-Ok-expect.ensures.next.1))
+pub expr-returns-in-Coverage-clause-read : goal.expr-returns-in-Coverage-clause-read
+expr-returns-in-Coverage-clause-read t c =
+    let e = c.in-Coverage.ensures.read.0 in
+    begun _ _ _ _ _ _ c.form.result c.form.ensures.read c.in-Coverage.ensures.on.forward refl
+    (λ s vs. ate e (expr ∷ s) _ (any_word ∷ iterating2 (covering e.next.place) s) refl ∙ restacked _ _ _ (ap (λ p. any_word ∷ iterating2 (covering p) s) c.in-Coverage.ensures.read.1))
 
-pub expr-returns-in_default-expect-clause-read : goal.expr-returns-in_default-expect-clause-read
-expr-returns-in_default-expect-clause-read t c =
-    begun _ _ _ _ _ _ c.chain.result c.chain.ensures.read (omega (arith, c.in_default.ensures.on.forward, c.in_default-expect.ensures.on.forward)) refl
-    (λ s vs. chain_comes _ _ _ c.in_default.ensures.next.0 c.in_default-expect.ensures.next.0 s _)
+pub expr-returns-in-Chain-clause-read : goal.expr-returns-in-Chain-clause-read
+expr-returns-in-Chain-clause-read t c =
+    let h = c.in-Chain.ensures.read in
+    begun _ _ _ _ _ _ c.chain.result c.chain.ensures.read c.in-Chain.ensures.on.forward refl
+    (λ s vs. chain_comes _ _ h.0 h.1 s _)
 
 -- ---- condense forms
 
