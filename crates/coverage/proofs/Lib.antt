@@ -1,6 +1,5 @@
 pub mod Bools
 pub mod Points
-pub mod Ranges
 pub mod Numbers
 pub mod Caps
 pub mod Turns

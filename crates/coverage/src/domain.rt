@@ -5,7 +5,7 @@ ghost use Rattle.coverage.specs.declared.axis.Axis.{Axis as AnAxis};
 
 use crate::axis::{AXES, Axis};
 use crate::per_axis::PerAxis;
-use crate::range::{Range, TOO_MANY, coordinate, is_bounded, on_axis, places, step};
+use crate::range::{Range, TOO_MANY, coordinate, is_bounded, on_axis, places, same_axis, step};
 
 /// What a coverage reaches over: for each axis a range of coordinates, or none where the axis is absent.
 pub type Domain = PerAxis<Option<Range>>;
@@ -123,7 +123,8 @@ impl Domain {
     pub fn is_same(self, other: Domain) -> bool
         ensures { result ≡ same_domain (extents self) (extents other) }
     {
-        self == other
+        AXES.iter()
+            .all(|axis| same_axis(self.on(*axis), other.on(*axis)))
     }
 
     /// Whether each axis that is there is within bounds.

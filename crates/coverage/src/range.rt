@@ -99,6 +99,17 @@ pub fn coordinate(axis: Option<Range>, k: usize, v: i64) -> i64
     }
 }
 
+/// Whether two axes are both absent or have the same ends.
+pub fn same_axis(a: Option<Range>, b: Option<Range>) -> bool
+    ensures { result ≡ same_range a b }
+{
+    match (a, b) {
+        (None, None) => true,
+        (Some(p), Some(q)) => p.lo == q.lo && p.hi == q.hi,
+        _ => false,
+    }
+}
+
 /// Whether an axis may stand on a shelf: its ends in order and within ±1,000,000, or absent.
 pub fn is_bounded(axis: Option<Range>) -> bool
     ensures { result ≡ axis_bounded axis }

@@ -8,8 +8,17 @@ use std::alloc::{AllocError, Global};
 pub fn read_cells(heap: Global, text: &[u8]) -> Result<Vec<i32>, AllocError>
     ensures { IfOk result (λ v. v.items ≡ cells_of text.now) }
 {
+    let mut cells = Vec::new(heap);
     if text.is_empty() {
-        return Ok(Vec::new(heap));
+        return Ok(cells);
     }
-    text.split(|b| *b == b' ').map(cell_of).collect(heap)
+    let mut from = 0;
+    for (at, byte) in text.iter().enumerate() {
+        if *byte == b' ' {
+            cells.push(cell_of(&text[from..at]))?;
+            from = at + 1;
+        }
+    }
+    cells.push(cell_of(&text[from..]))?;
+    Ok(cells)
 }

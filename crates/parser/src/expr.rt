@@ -75,7 +75,8 @@ impl Parser<'_, '_> {
         }
     }
 
-    // What follows the word `condense`, which stands at `place`.
+    // What follows the word `condense`, which stands at `place`. Kept out of `expr`, as `form` is: their lists would
+    // lie in the frame of every bracket.
     #[cycle(expression)]
     #[inline(never)]
     fn condense(&mut self, place: usize) -> Result<Done, usize>

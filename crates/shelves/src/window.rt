@@ -58,6 +58,7 @@ pub fn make_window<'w, S: Shelf>(below: &'w mut S, coverage: usize, cut: Cut) ->
 
 impl<'w, S: Shelf> Window<'w, S> {
     /// What a call under a number sees; the window's coverage has number 0.
+    // Put into each call, as the look of `Single` is: a look through windows would else cost several times as much.
     #[inline(always)]
     fn seen(&self, coverage: usize, strip: usize) -> Result<View, ShelfFault>
         ensures { result ≡ seen_under (view_on (slice_get (S.Shelf.meaning self.now.below.now) self.now.coverage) self.now.coverage self.now.cut) coverage strip }
