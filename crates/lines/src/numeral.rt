@@ -1,5 +1,5 @@
 // The values of numerals of any length, as far as they can be told.
-ghost use Rattle.std.specs.Prelude.{◌≡◌, ◌==◌, true, not, drop, int_le, nat_lt};
+ghost use Rattle.std.specs.Prelude.{◌≡◌, ◌==◌, true, not, drop, pos, int_le, nat_lt};
 ghost use Rattle.lines.specs.Numerals.{all_digits, digits_of, has_minus, is_number, signed_worth, told_cell, told_count, told_number, told_range, worth};
 ghost use Rattle.std.specs.List.{prefix_len};
 ghost use Rattle.coverage.specs.Limits.{ordered};
@@ -32,12 +32,22 @@ fn digits_of(numeral: &[u8]) -> &[u8]
     numeral.strip_prefix(b"-").unwrap_or(numeral)
 }
 
+/// The value of decimal digits, or the largest `i64` where it is larger.
+fn magnitude_of(digits: &[u8]) -> i64
+    ensures { result ≡ told_number (pos (worth digits.now)) }
+{
+    i64::try_from(count_of(digits)).unwrap_or(i64::MAX)
+}
+
 /// The value of a numeral, or the farthest on its side of 0 that can be told.
 pub fn int_of(numeral: &[u8]) -> i64
     ensures { result ≡ told_number (signed_worth numeral.now) }
 {
-    let size = i64::try_from(count_of(digits_of(numeral))).unwrap_or(i64::MAX);
-    if is_negative(numeral) { -size } else { size }
+    if is_negative(numeral) {
+        -magnitude_of(digits_of(numeral))
+    } else {
+        magnitude_of(numeral)
+    }
 }
 
 /// The value of a cell, or the one that is of no kind where it is past 32 bits.
