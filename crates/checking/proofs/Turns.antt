@@ -3,8 +3,7 @@ use Rattle.std.proofs.Common.{◌≡◌, ℕ, Bool, true, Option, refl}
 use mathlib.Core.Path.{fun_ext}
 use Rattle.coverage.specs.declared.refusal.Refusal.{Refusal}
 use Rattle.coverage.specs.declared.axis.Axis.TheVariants.{X, Y, T}
-use Rattle.coverage.specs.Axes.{extents, no_extents}
-use Rattle.coverage.specs.Axes.{Extents}
+use Rattle.coverage.specs.Axes.{Extents, extents, no_extents}
 use Rattle.coverage.specs.declared.kind.Kind.{Kind}
 use Rattle.language.specs.Faults.{unless, first, limits_fault}
 use Rattle.checking.specs.declared.domains.TheConstants.{NO_AXES}
